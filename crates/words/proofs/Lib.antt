@@ -1,0 +1,5 @@
+pub mod Xor
+pub mod Lists
+pub mod Numbers
+pub mod Lanes
+pub mod Word32

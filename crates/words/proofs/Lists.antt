@@ -1,0 +1,247 @@
+-- Laws of lists with something added to each element, or laid over a part. Assumes nothing.
+use mathlib.Core.Path.{_≡_, refl, sym, ap, ap₂, _∙_}
+use mathlib.Core.List.{List, [], _∷_, _++_}
+use Prim.Native.Nat.{ℕ, zero, suc, _+_, _-_, _*_, _≤_, _<_}
+use native.Mathlib.Nat.{le-of-suc-le-suc, not-suc-le-zero, zero-mul, one-mul}
+use native.Mathlib.Omega.{arith}
+use native.Mathlib.Decide.{decLt, ℕ-discrete}
+use lib.Bits.{bitXor, xor-lt, xor-zero-r, xor-comm, xor-self}
+use lib.ListN.{length, getD, set, take, drop, replicate, length-set, length-append, length-drop, List·getD-append, List·getD-eq-default}
+use lib.Seq.{ext-getD, getD-set-same, getD-set-other, getD-take, getD-drop, getD-append-add, length-take-le}
+use borrow.Rule.Slice.PartMut.{putMid, post-is}
+use Rattle.words.specs.Bytes.{Bytes, put}
+use Rattle.words.specs.Xor.{xorEach, xorPart, xorList, scale}
+use Rattle.words.proofs.Xor.{xor-assoc, scale-xor, scale-lt}
+
+-- ---- a list with f i added to its element i
+
+pub xorEach-length : (l : List ℕ) (f : ℕ → ℕ) → length (xorEach l f) ≡ length l
+unfolding xorEach
+xorEach-length [] f = refl
+xorEach-length (x ∷ xs) f = ap suc (xorEach-length xs (λ i. f (suc i)))
+
+pub xorEach-at : (l : List ℕ) (f : ℕ → ℕ) (i : ℕ) → i < length l → getD (xorEach l f) i 0 ≡ bitXor (getD l i 0) (f i)
+unfolding xorEach
+xorEach-at [] f i h = absurd (not-suc-le-zero h)
+xorEach-at (x ∷ xs) f zero h = refl
+xorEach-at (x ∷ xs) f (suc i) h = xorEach-at xs (λ j. f (suc j)) i (le-of-suc-le-suc h)
+
+-- a list is l with f added if each of its elements is
+pub xorEach-is : (l m : List ℕ) (f : ℕ → ℕ) → length m ≡ length l
+    → ((i : ℕ) → i < length l → getD m i 0 ≡ bitXor (getD l i 0) (f i)) → m ≡ xorEach l f
+xorEach-is l m f e h =
+    ext-getD 0 m (xorEach l f) (e ∙ sym (xorEach-length l f))
+    (λ i lt. let lt′ : i < length l = omega arith in h i lt′ ∙ sym (xorEach-at l f i lt′))
+
+pub xorEach-cong : (l : List ℕ) (f g : ℕ → ℕ) → ((i : ℕ) → i < length l → f i ≡ g i) → xorEach l f ≡ xorEach l g
+xorEach-cong l f g h =
+    xorEach-is l (xorEach l f) g (xorEach-length l f)
+    (λ i lt. xorEach-at l f i lt ∙ ap (λ (x : ℕ). bitXor (getD l i 0) x) (h i lt))
+
+pub xorEach-none : (l : List ℕ) (f : ℕ → ℕ) → length l ≡ 0 → l ≡ xorEach l f
+unfolding xorEach
+xorEach-none [] f e = refl
+xorEach-none (x ∷ l) f e = absurd (omega arith)
+
+-- adding zeros changes nothing
+pub xorEach-zero : (l : List ℕ) (f : ℕ → ℕ) → ((i : ℕ) → i < length l → f i ≡ 0) → xorEach l f ≡ l
+xorEach-zero l f h =
+    sym (xorEach-is l l f refl (λ i lt. sym (ap (bitXor (getD l i 0)) (h i lt) ∙ xor-zero-r (getD l i 0))))
+
+-- associativity: two additions are one
+pub xorEach-twice : (l : List ℕ) (f g : ℕ → ℕ) → xorEach (xorEach l f) g ≡ xorEach l (λ i. bitXor (f i) (g i))
+unfolding xorEach
+xorEach-twice [] f g = refl
+xorEach-twice (x ∷ xs) f g =
+    ap₂ (λ (a : ℕ) (r : List ℕ). a ∷ r) (xor-assoc x (f 0) (g 0)) (xorEach-twice xs (λ i. f (suc i)) (λ i. g (suc i)))
+
+-- cancellation: what is added twice is gone
+pub xorEach-cancel : (l : List ℕ) (f : ℕ → ℕ) → xorEach (xorEach l f) f ≡ l
+xorEach-cancel l f = xorEach-twice l f f ∙ xorEach-zero l (λ i. bitXor (f i) (f i)) (λ i lt. xor-self (f i))
+
+-- ---- sums of two lists
+
+-- of equally long lists, at every place
+pub xorList-at : (l m : List ℕ) → length l ≡ length m → (i : ℕ) → getD (xorList l m) i 0 ≡ bitXor (getD l i 0) (getD m i 0)
+xorList-at l m e i = here (decLt i (length l))
+  where
+    here : Dec (i < length l) → getD (xorList l m) i 0 ≡ bitXor (getD l i 0) (getD m i 0)
+    here (yes h) = xorEach-at l (λ j. getD m j 0) i h
+    here (no h) =
+        List·getD-eq-default (xorList l m) 0 (omega (arith, xorEach-length l (λ j. getD m j 0)))
+        ∙ sym (ap₂ bitXor (List·getD-eq-default l 0 (omega arith)) (List·getD-eq-default m 0 (omega arith)))
+
+pub xorList-comm : (l m : List ℕ) → length l ≡ length m → xorList l m ≡ xorList m l
+xorList-comm l m e =
+    xorEach-is m (xorList l m) (λ i. getD l i 0) (xorEach-length l (λ i. getD m i 0) ∙ e)
+    (λ i lt. xorList-at l m e i ∙ xor-comm (getD l i 0) (getD m i 0))
+
+pub xorList-bytes : (l m : List ℕ) → length l ≡ length m → Bytes l → Bytes m → Bytes (xorList l m)
+xorList-bytes l m e hl hm i = rw (xorList-at l m e i) (xor-lt 8 (getD l i 0) (getD m i 0) (hl i) (hm i))
+
+-- ---- a bit times a list
+
+pub scale-length : (d : ℕ) (l : List ℕ) → length (scale d l) ≡ length l
+unfolding scale
+scale-length d [] = refl
+scale-length d (x ∷ l) = ap suc (scale-length d l)
+
+pub scale-at : (d : ℕ) (l : List ℕ) (i : ℕ) → getD (scale d l) i 0 ≡ d * getD l i 0
+unfolding scale
+scale-at d [] i = omega arith
+scale-at d (x ∷ l) zero = refl
+scale-at d (x ∷ l) (suc i) = scale-at d l i
+
+pub scale-one : (l : List ℕ) → scale 1 l ≡ l
+unfolding scale
+scale-one [] = refl
+scale-one (x ∷ l) = ap₂ _∷_ (one-mul x) (scale-one l)
+
+pub scale-zero : (l : List ℕ) → scale 0 l ≡ replicate (length l) 0
+unfolding scale
+scale-zero [] = refl
+scale-zero (x ∷ l) = ap₂ _∷_ (zero-mul x) (scale-zero l)
+
+pub scale-bytes : (d : ℕ) (l : List ℕ) → d < 2 → Bytes l → Bytes (scale d l)
+scale-bytes d l h hl i = rw (scale-at d l i) (scale-lt 256 d (getD l i 0) h (hl i))
+
+-- a bit distributes over a sum of lists
+pub scale-sum : (d : ℕ) (l m : List ℕ) → d < 2 → length l ≡ length m → scale d (xorList l m) ≡ xorList (scale d l) (scale d m)
+scale-sum d l m h e =
+    xorEach-is (scale d l) (scale d (xorList l m)) (λ i. getD (scale d m) i 0)
+    (scale-length d (xorList l m) ∙ xorEach-length l (λ i. getD m i 0) ∙ sym (scale-length d l))
+    (λ i lt.
+    scale-at d (xorList l m) i
+    ∙ ap (λ (x : ℕ). d * x) (xorList-at l m e i)
+    ∙ scale-xor d (getD l i 0) (getD m i 0) h
+    ∙ sym (ap₂ bitXor (scale-at d l i) (scale-at d m i)))
+
+-- ---- additions in progress: m is l with f added below n
+
+pub record Added (l m : List ℕ) (f : ℕ → ℕ) (n : ℕ) : Type 0 where
+  pub len : length m ≡ length l
+  pub done : (k : ℕ) → k < n → k < length l → getD m k 0 ≡ bitXor (getD l k 0) (f k)
+  pub rest : (k : ℕ) → n ≤ k → getD m k 0 ≡ getD l k 0
+
+pub added-none : (l : List ℕ) (f : ℕ → ℕ) → Added l l f 0
+added-none l f = record { len = refl; done = λ k h h′. absurd (not-suc-le-zero h); rest = λ k h. refl }
+
+pub added-all : (l m : List ℕ) (f : ℕ → ℕ) (n : ℕ) → length l ≤ n → Added l m f n → m ≡ xorEach l f
+added-all l m f n h a = xorEach-is l m f (a .len) (λ i lt. a .done i (omega arith) lt)
+
+-- one more element
+pub added-one : (l m : List ℕ) (f : ℕ → ℕ) (n : ℕ) → n < length l → Added l m f n
+    → Added l (set m n (bitXor (getD m n 0) (f n))) f (n + 1)
+added-one l m f n h a =
+    record {
+      len = length-set m n _ ∙ a .len;
+      done = λ k lt lt′. here k (ℕ-discrete k n) lt lt′;
+      rest = λ k le. getD-set-other m n k _ 0 (λ e. omega arith) ∙ a .rest k (omega arith);
+    }
+  where
+    v : ℕ
+    v = bitXor (getD m n 0) (f n)
+
+    here : (k : ℕ) → Dec (k ≡ n) → k < n + 1 → k < length l → getD (set m n v) k 0 ≡ bitXor (getD l k 0) (f k)
+    here k (yes e) lt lt′ =
+        ap (λ (j : ℕ). getD (set m n v) j 0) e
+        ∙ getD-set-same m n v 0 (omega (arith, a .len))
+        ∙ ap (λ (x : ℕ). bitXor x (f n)) (a .rest n (omega arith))
+        ∙ ap (λ (j : ℕ). bitXor (getD l j 0) (f j)) (sym e)
+    here k (no ne) lt lt′ = getD-set-other m n k v 0 ne ∙ a .done k (omega arith) lt′
+
+-- ---- three lists one after the other, of which the middle one is new
+
+at-first : (p q : List ℕ) (n k : ℕ) → length p ≡ n → k < n → getD (p ++ q) k 0 ≡ getD p k 0
+at-first p q n k e h = List·getD-append p q 0 k (omega arith)
+
+at-next : (p q : List ℕ) (n k : ℕ) → length p ≡ n → n ≤ k → getD (p ++ q) k 0 ≡ getD q (k - n) 0
+at-next p q n k e h =
+    let whole : k ≡ length p + (k - n) = omega arith in
+    ap (λ (j : ℕ). getD (p ++ q) j 0) whole ∙ getD-append-add p q (k - n) 0
+
+module _ (l s : List ℕ) (a n : ℕ) (fits : a + n ≤ length l) (len : length s ≡ n) where
+  head-length : length (take a l) ≡ a
+  head-length = length-take-le a l (omega arith)
+
+  pub mid-length : length (take a l ++ (s ++ drop (a + n) l)) ≡ length l
+  mid-length =
+      length-append (take a l) (s ++ drop (a + n) l)
+      ∙ ap (λ (m : ℕ). length (take a l) + m) (length-append s (drop (a + n) l))
+      ∙ omega (arith, head-length, len, length-drop (a + n) l)
+
+  pub mid-before : (k : ℕ) → k < a → getD (take a l ++ (s ++ drop (a + n) l)) k 0 ≡ getD l k 0
+  mid-before k h = at-first (take a l) (s ++ drop (a + n) l) a k head-length h ∙ getD-take a l k 0 h
+
+  pub mid-in : (k : ℕ) → k < n → getD (take a l ++ (s ++ drop (a + n) l)) (a + k) 0 ≡ getD s k 0
+  mid-in k h =
+      let back : a + k - a ≡ k = omega arith in
+      at-next (take a l) (s ++ drop (a + n) l) a (a + k) head-length (omega arith)
+      ∙ ap (λ (j : ℕ). getD (s ++ drop (a + n) l) j 0) back
+      ∙ at-first s (drop (a + n) l) n k len h
+
+  pub mid-after : (k : ℕ) → a + n ≤ k → getD (take a l ++ (s ++ drop (a + n) l)) k 0 ≡ getD l k 0
+  mid-after k h =
+      let back : a + n + (k - a - n) ≡ k = omega arith in
+      at-next (take a l) (s ++ drop (a + n) l) a k head-length (omega arith)
+      ∙ at-next s (drop (a + n) l) n (k - a) len (omega arith)
+      ∙ getD-drop (a + n) l (k - a - n) 0
+      ∙ ap (λ (j : ℕ). getD l j 0) back
+
+-- ---- a range laid over a part
+
+module _ (d : List ℕ) (at : ℕ) (s : List ℕ) (fits : at + length s ≤ length d) where
+  pub put-length : length (put d at s) ≡ length d
+  unfolding put
+  put-length = mid-length d s at (length s) fits refl
+
+  pub put-before : (k : ℕ) → k < at → getD (put d at s) k 0 ≡ getD d k 0
+  unfolding put
+  put-before = mid-before d s at (length s) fits refl
+
+  pub put-in : (k : ℕ) → k < length s → getD (put d at s) (at + k) 0 ≡ getD s k 0
+  unfolding put
+  put-in = mid-in d s at (length s) fits refl
+
+  pub put-after : (k : ℕ) → at + length s ≤ k → getD (put d at s) k 0 ≡ getD d k 0
+  unfolding put
+  put-after = mid-after d s at (length s) fits refl
+
+-- ---- a part with something added
+
+module _ (l : List ℕ) (a n : ℕ) (f : ℕ → ℕ) (fits : a + n ≤ length l) where
+  part-length : length (take n (drop a l)) ≡ n
+  part-length = length-take-le n (drop a l) (omega (arith, length-drop a l))
+
+  added-length : length (xorEach (take n (drop a l)) f) ≡ n
+  added-length = xorEach-length (take n (drop a l)) f ∙ part-length
+
+  pub xorPart-length : length (xorPart l a n f) ≡ length l
+  unfolding xorPart
+  xorPart-length = mid-length l (xorEach (take n (drop a l)) f) a n fits added-length
+
+  pub xorPart-before : (k : ℕ) → k < a → getD (xorPart l a n f) k 0 ≡ getD l k 0
+  unfolding xorPart
+  xorPart-before = mid-before l (xorEach (take n (drop a l)) f) a n fits added-length
+
+  pub xorPart-in : (k : ℕ) → k < n → getD (xorPart l a n f) (a + k) 0 ≡ bitXor (getD l (a + k) 0) (f k)
+  unfolding xorPart
+  xorPart-in k h =
+      mid-in l (xorEach (take n (drop a l)) f) a n fits added-length k h
+      ∙ xorEach-at (take n (drop a l)) f k (omega (arith, part-length))
+      ∙ ap (λ (x : ℕ). bitXor x (f k)) (getD-take n (drop a l) k 0 h ∙ getD-drop a l k 0)
+
+  pub xorPart-after : (k : ℕ) → a + n ≤ k → getD (xorPart l a n f) k 0 ≡ getD l k 0
+  unfolding xorPart
+  xorPart-after = mid-after l (xorEach (take n (drop a l)) f) a n fits added-length
+
+-- ---- parts that were lent and come back
+
+-- with f added
+pub part-added : (a e n : ℕ) (xs ys : List ℕ) (f : ℕ → ℕ) → e ≡ a + n → ys ≡ xorEach (take (e - a) (drop a xs)) f
+    → putMid a (e - a) xs ys ≡ xorPart xs a n f
+unfolding xorPart
+part-added a e n xs ys f q h =
+    let m : e - a ≡ n = omega arith in
+    ap₂ (λ (p r : List ℕ). take a xs ++ (p ++ r)) (h ∙ ap (λ (k : ℕ). xorEach (take k (drop a xs)) f) m)
+    (post-is a e xs (omega arith) ∙ ap (λ (k : ℕ). drop k xs) q)

@@ -1,0 +1,103 @@
+-- Little-endian numbers, both ways. Assumes nothing.
+use mathlib.Core.Path.{_≡_, refl, sym, ap, ap₂, _∙_}
+use mathlib.Core.List.{List, [], _∷_}
+use Prim.Native.Nat.{ℕ, zero, suc, _+_, _-_, _*_, _/_, _%_, _^_, _<_}
+use native.Mathlib.Nat.{mod-one, mod-eq-of-lt, zero-lt-suc, pow-suc, not-suc-le-zero, le-of-suc-le-suc}
+use native.Mathlib.Decide.{decLt}
+use native.Mathlib.Omega.{arith}
+use lib.Arith.{mod-mul}
+use lib.ListN.{length, getD, List·getD-append}
+use Rattle.words.specs.Bytes.{Bytes, number, bytes, word32, word64, bytesOfWords, put}
+use Rattle.words.proofs.Lists.{put-before, put-in}
+
+pub bytes-length : (n x : ℕ) → length (bytes n x) ≡ n
+bytes-length zero x = refl
+bytes-length (suc n) x = ap suc (bytes-length n (x / 256))
+
+pos : (n : ℕ) → 0 < 256 ^ n
+pos zero = zero-lt-suc 0
+pos (suc n) = rw (pow-suc 256 n) (omega (arith, pos n))
+
+-- from a number to n bytes and back: its value modulo 256^n
+pub number-bytes : (n x : ℕ) → number (bytes n x) ≡ x % 256 ^ n
+number-bytes zero x = sym (mod-one x)
+number-bytes (suc n) x =
+    ap (λ (y : ℕ). x % 256 + 256 * y) (number-bytes n (x / 256))
+    ∙ turn (x % 256) (x / 256 % 256 ^ n)
+    ∙ sym (mod-mul x (pos n) (zero-lt-suc 255))
+    ∙ ap (λ (m : ℕ). x % m) (sym (pow-suc 256 n))
+  where
+    turn : (a b : ℕ) → a + 256 * b ≡ b * 256 + a
+    turn a b = omega arith
+
+-- from bytes to their number and back
+pub bytes-number : (s : List ℕ) → Bytes s → bytes (length s) (number s) ≡ s
+bytes-number [] h = refl
+bytes-number (b ∷ s) h =
+    let low : (b + 256 * number s) % 256 ≡ b = omega (arith, h 0) in
+    let high : (b + 256 * number s) / 256 ≡ number s = omega (arith, h 0) in
+    ap₂ _∷_ low (ap (bytes (length s)) high ∙ bytes-number s (λ i. h (suc i)))
+
+pub number-lt : (s : List ℕ) → Bytes s → number s < 256 ^ length s
+number-lt [] h = zero-lt-suc 0
+number-lt (b ∷ s) h = rw (pow-suc 256 (length s)) (omega (arith, h 0, number-lt s (λ i. h (suc i))))
+
+-- the 4-byte number at place i of words that were laid out as bytes
+pub word-back : (ws : List ℕ) (i : ℕ) → getD ws i 0 < 2 ^ 32 → word32 (bytesOfWords ws) (4 * i) ≡ getD ws i 0
+unfolding bytesOfWords
+word-back [] i h = refl
+word-back (w ∷ ws) zero h = number-bytes 4 w ∙ mod-eq-of-lt h
+word-back (w ∷ ws) (suc i) h =
+    let e : (k : ℕ) → 4 * suc i + k ≡ suc (suc (suc (suc (4 * i + k)))) = λ k. omega arith in
+    let f : 4 * suc i ≡ suc (suc (suc (suc (4 * i)))) = omega arith in
+    let l : List ℕ = bytesOfWords (w ∷ ws) in
+    let at : (p q : ℕ) → p ≡ q → getD l p 0 ≡ getD l q 0 = λ p q r. ap (λ (k : ℕ). getD l k 0) r in
+    ap₂ (λ (a b : ℕ). a + 256 * b) (at _ _ f)
+    (ap₂ (λ (a b : ℕ). a + 256 * b) (at _ _ (e 1))
+    (ap₂ (λ (a b : ℕ). a + 256 * b) (at _ _ (e 2)) (ap (λ (a : ℕ). a + 256 * 0) (at _ _ (e 3)))))
+    ∙ word-back ws i h
+
+pub bytesOfWords-length : (ws : List ℕ) → length (bytesOfWords ws) ≡ 4 * length ws
+unfolding bytesOfWords
+bytesOfWords-length [] = refl
+bytesOfWords-length (w ∷ ws) = omega (arith, bytesOfWords-length ws)
+
+-- byte k of word i
+pub bytesOfWords-at : (ws : List ℕ) (i k : ℕ) → i < length ws → k < 4
+    → getD (bytesOfWords ws) (4 * i + k) 0 ≡ getD (bytes 4 (getD ws i 0)) k 0
+unfolding bytesOfWords
+bytesOfWords-at [] i k h hk = absurd (not-suc-le-zero h)
+bytesOfWords-at (w ∷ ws) zero k h hk =
+    let e : 4 * 0 + k ≡ k = omega arith in
+    ap (λ (j : ℕ). getD (bytesOfWords (w ∷ ws)) j 0) e
+    ∙ List·getD-append (bytes 4 w) (bytesOfWords ws) 0 k hk
+bytesOfWords-at (w ∷ ws) (suc i) k h hk =
+    let e : 4 * suc i + k ≡ suc (suc (suc (suc (4 * i + k)))) = omega arith in
+    ap (λ (j : ℕ). getD (bytesOfWords (w ∷ ws)) j 0) e ∙ bytesOfWords-at ws i k (le-of-suc-le-suc h) hk
+
+-- words in progress: the first i are laid out, and one more is
+pub words-more : (ws d : List ℕ) (i : ℕ) → i < length ws → length d ≡ 4 * length ws
+    → ((k : ℕ) → k < 4 * i → getD d k 0 ≡ getD (bytesOfWords ws) k 0)
+    → (k : ℕ) → k < 4 * (i + 1) → getD (put d (4 * i) (bytes 4 (getD ws i 0))) k 0 ≡ getD (bytesOfWords ws) k 0
+words-more ws d i h e done k lt = here (decLt k (4 * i))
+  where
+    here : Dec (k < 4 * i) → getD (put d (4 * i) (bytes 4 (getD ws i 0))) k 0 ≡ getD (bytesOfWords ws) k 0
+    here (yes l) = put-before d (4 * i) (bytes 4 (getD ws i 0)) (omega arith) k l ∙ done k l
+    here (no l) =
+        let q : k ≡ 4 * i + (k - 4 * i) = omega arith in
+        let r : k - 4 * i < 4 = omega arith in
+        ap (λ (j : ℕ). getD (put d (4 * i) (bytes 4 (getD ws i 0))) j 0) q
+        ∙ put-in d (4 * i) (bytes 4 (getD ws i 0)) (omega arith) (k - 4 * i) r
+        ∙ sym (bytesOfWords-at ws i (k - 4 * i) h r)
+        ∙ ap (λ (j : ℕ). getD (bytesOfWords ws) j 0) (sym q)
+
+-- an 8-byte number is two of 4 bytes
+pub word64-halves : (s : List ℕ) (at : ℕ) → word64 s at ≡ word32 s at + word32 s (at + 4) * 2 ^ 32
+word64-halves s at =
+    let e1 : at + 4 + 1 ≡ at + 5 = omega arith in
+    let e2 : at + 4 + 2 ≡ at + 6 = omega arith in
+    let e3 : at + 4 + 3 ≡ at + 7 = omega arith in
+    omega (arith, ap (λ (i : ℕ). getD s i 0) e1, ap (λ (i : ℕ). getD s i 0) e2, ap (λ (i : ℕ). getD s i 0) e3)
+
+pub word32-lt : (s : List ℕ) (at : ℕ) → Bytes s → word32 s at < 2 ^ 32
+word32-lt s at h = omega (arith, h at, h (at + 1), h (at + 2), h (at + 3))
