@@ -116,39 +116,51 @@ scale-sum d l m h e =
     ∙ scale-xor d (getD l i 0) (getD m i 0) h
     ∙ sym (ap₂ bitXor (scale-at d l i) (scale-at d m i)))
 
--- ---- additions in progress: m is l with f added below n
+-- ---- a loop that writes one element after the other: m is l with F k at each place k below n
 
-pub record Added (l m : List ℕ) (f : ℕ → ℕ) (n : ℕ) : Type 0 where
+pub record Updated (l m : List ℕ) (F : ℕ → ℕ) (n : ℕ) : Type 0 where
   pub len : length m ≡ length l
-  pub done : (k : ℕ) → k < n → k < length l → getD m k 0 ≡ bitXor (getD l k 0) (f k)
+  pub done : (k : ℕ) → k < n → k < length l → getD m k 0 ≡ F k
   pub rest : (k : ℕ) → n ≤ k → getD m k 0 ≡ getD l k 0
 
-pub added-none : (l : List ℕ) (f : ℕ → ℕ) → Added l l f 0
-added-none l f = record { len = refl; done = λ k h h′. absurd (not-suc-le-zero h); rest = λ k h. refl }
-
-pub added-all : (l m : List ℕ) (f : ℕ → ℕ) (n : ℕ) → length l ≤ n → Added l m f n → m ≡ xorEach l f
-added-all l m f n h a = xorEach-is l m f (a .len) (λ i lt. a .done i (omega arith) lt)
+pub updated-none : (l : List ℕ) (F : ℕ → ℕ) → Updated l l F 0
+updated-none l F = record { len = refl; done = λ k h h′. absurd (not-suc-le-zero h); rest = λ k h. refl }
 
 -- one more element
+pub updated-one : (l m : List ℕ) (F : ℕ → ℕ) (n v : ℕ) → n < length l → v ≡ F n → Updated l m F n
+    → Updated l (set m n v) F (n + 1)
+updated-one l m F n v h e u =
+    record {
+      len = length-set m n v ∙ u .len;
+      done = λ k lt lt′. here k (ℕ-discrete k n) lt lt′;
+      rest = λ k le. getD-set-other m n k v 0 (λ q. omega arith) ∙ u .rest k (omega arith);
+    }
+  where
+    here : (k : ℕ) → Dec (k ≡ n) → k < n + 1 → k < length l → getD (set m n v) k 0 ≡ F k
+    here k (yes q) lt lt′ =
+        ap (λ (j : ℕ). getD (set m n v) j 0) q ∙ getD-set-same m n v 0 (omega (arith, u .len)) ∙ e ∙ ap F (sym q)
+    here k (no ne) lt lt′ = getD-set-other m n k v 0 ne ∙ u .done k (omega arith) lt′
+
+-- all of them: m is any list that has F k at each place
+pub updated-all : (l m r : List ℕ) (F : ℕ → ℕ) (n : ℕ) → length l ≤ n → length r ≡ length l
+    → ((k : ℕ) → k < length l → getD r k 0 ≡ F k) → Updated l m F n → m ≡ r
+updated-all l m r F n h e at u =
+    ext-getD 0 m r (u .len ∙ sym e)
+    (λ k lt. let lt′ : k < length l = omega (arith, u .len) in u .done k (omega arith) lt′ ∙ sym (at k lt′))
+
+-- additions in progress: m is l with f added below n
+abbrev pub Added : List ℕ → List ℕ → (ℕ → ℕ) → ℕ → Type 0
+Added l m f n = Updated l m (λ k. bitXor (getD l k 0) (f k)) n
+
 pub added-one : (l m : List ℕ) (f : ℕ → ℕ) (n : ℕ) → n < length l → Added l m f n
     → Added l (set m n (bitXor (getD m n 0) (f n))) f (n + 1)
 added-one l m f n h a =
-    record {
-      len = length-set m n _ ∙ a .len;
-      done = λ k lt lt′. here k (ℕ-discrete k n) lt lt′;
-      rest = λ k le. getD-set-other m n k _ 0 (λ e. omega arith) ∙ a .rest k (omega arith);
-    }
-  where
-    v : ℕ
-    v = bitXor (getD m n 0) (f n)
+    updated-one l m (λ k. bitXor (getD l k 0) (f k)) n (bitXor (getD m n 0) (f n)) h
+    (ap (λ (x : ℕ). bitXor x (f n)) (a .rest n (omega arith))) a
 
-    here : (k : ℕ) → Dec (k ≡ n) → k < n + 1 → k < length l → getD (set m n v) k 0 ≡ bitXor (getD l k 0) (f k)
-    here k (yes e) lt lt′ =
-        ap (λ (j : ℕ). getD (set m n v) j 0) e
-        ∙ getD-set-same m n v 0 (omega (arith, a .len))
-        ∙ ap (λ (x : ℕ). bitXor x (f n)) (a .rest n (omega arith))
-        ∙ ap (λ (j : ℕ). bitXor (getD l j 0) (f j)) (sym e)
-    here k (no ne) lt lt′ = getD-set-other m n k v 0 ne ∙ a .done k (omega arith) lt′
+pub added-all : (l m : List ℕ) (f : ℕ → ℕ) (n : ℕ) → length l ≤ n → Added l m f n → m ≡ xorEach l f
+added-all l m f n h a =
+    updated-all l m (xorEach l f) (λ k. bitXor (getD l k 0) (f k)) n h (xorEach-length l f) (λ k lt. xorEach-at l f k lt) a
 
 -- ---- three lists one after the other, of which the middle one is new
 

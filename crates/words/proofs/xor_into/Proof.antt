@@ -4,7 +4,7 @@ use Prim.Native.Nat.{_-_, _≤_}
 use native.Mathlib.Omega.{arith}
 use lib.ListN.{length, getD}
 use borrow.Author.Needs.{needs}
-use Rattle.words.proofs.Lists.{Added, added-none, added-one, added-all}
+use Rattle.words.proofs.Lists.{Added, updated-none, added-one, added-all}
 use Rattle.words.proofs.xor_into.Statement.{statement}
 use Rattle.words.proofs.xor_into.Tie as tie
 
@@ -15,7 +15,7 @@ abbrev μ-loop : tie.MeasureT-loop
 μ-loop dst₀ src i₀ dst i = length dst₀ - i
 
 loop-holds : tie.Need-loop-holds Inv-loop μ-loop
-loop-holds c = (omega arith, added-none _ _)
+loop-holds c = (omega arith, updated-none _ _)
 
 slice-read-dst : tie.Need-slice-read-dst Inv-loop μ-loop
 slice-read-dst c = omega arith

@@ -1,0 +1,65 @@
+-- Laws of states and lanes. Assumes nothing.
+use mathlib.Core.Path.{_≡_, refl, sym, ap, ap₂, _∙_}
+use mathlib.Core.List.{List, [], _∷_}
+use Prim.Native.Nat.{ℕ, zero, suc, _+_, _*_, _^_, _<_}
+use native.Mathlib.Omega.{arith}
+use lib.ListN.{length, getD, length-set}
+use Rattle.words.specs.Bytes.{word32}
+use Rattle.words.specs.Lanes.{readLane, lane}
+use Rattle.words.specs.Word32.{add32}
+use Rattle.words.proofs.Lanes.{lane-at}
+use Rattle.words.proofs.Numbers.{word-back}
+use Rattle.chacha20.specs.ChaCha.{putQuad, quarterAt, columnRound, diagonalRound, doubleRound, doubleRounds, addWords}
+use Rattle.chacha20.specs.Lanes.{keyIn}
+
+-- two lists are equal, head by head
+pub cons : {x y : ℕ} {s t : List ℕ} → x ≡ y → s ≡ t → _≡_ {A = List ℕ} (x ∷ s) (y ∷ t)
+cons p q = ap₂ (λ (a : ℕ) (r : List ℕ). a ∷ r) p q
+
+-- ---- sums of states
+
+pub addWords-length : (s t : List ℕ) → length s ≡ length t → length (addWords s t) ≡ length s
+unfolding addWords
+addWords-length [] t e = refl
+addWords-length (x ∷ s) [] e = absurd (omega arith)
+addWords-length (x ∷ s) (y ∷ t) e = ap suc (addWords-length s t (omega arith))
+
+pub addWords-at : (s t : List ℕ) → length s ≡ length t → (i : ℕ) → getD (addWords s t) i 0 ≡ add32 (getD s i 0) (getD t i 0)
+unfolding addWords
+addWords-at [] [] e i = refl
+addWords-at [] (y ∷ t) e i = absurd (omega arith)
+addWords-at (x ∷ s) [] e i = absurd (omega arith)
+addWords-at (x ∷ s) (y ∷ t) e zero = refl
+addWords-at (x ∷ s) (y ∷ t) e (suc i) = addWords-at s t (omega arith) i
+
+-- a lane of a sum is the sum of the lanes
+pub lane-add : (l j n : ℕ) (s t : List ℕ) → length s ≡ length t
+    → readLane l j n (addWords s t) ≡ addWords (readLane l j n s) (readLane l j n t)
+unfolding addWords
+lane-add l j zero s t e = refl
+lane-add l j (suc n) s t e = cons (addWords-at s t e (j + l)) (lane-add l (j + 4) n s t e)
+
+-- ---- keys in lanes
+
+-- word w of the key in lane l
+pub key-word : (keys : List ℕ) (l w x : ℕ) → w < 8 → x ≡ getD keys (4 * w + l) 0 → x < 2 ^ 32 → x ≡ word32 (keyIn l keys) (4 * w)
+unfolding keyIn
+key-word keys l w x h e lt =
+    let p : 0 + 4 * w + l ≡ 4 * w + l = omega arith in
+    let q : getD (lane l 8 keys) w 0 ≡ x = lane-at l 0 8 w keys h ∙ ap (λ (i : ℕ). getD keys i 0) p ∙ sym e in
+    sym (word-back (lane l 8 keys) w (omega arith) ∙ q)
+
+-- ---- the rounds keep a state's length
+
+quarterAt-length : (i j k l : ℕ) (s : List ℕ) → length (quarterAt i j k l s) ≡ length s
+unfolding quarterAt putQuad
+quarterAt-length i j k l s = simp length-set
+
+doubleRound-length : (s : List ℕ) → length (doubleRound s) ≡ length s
+unfolding doubleRound columnRound diagonalRound
+doubleRound-length s = simp quarterAt-length
+
+pub doubleRounds-length : (n : ℕ) (s : List ℕ) → length (doubleRounds n s) ≡ length s
+unfolding doubleRounds
+doubleRounds-length zero s = refl
+doubleRounds-length (suc n) s = doubleRound-length (doubleRounds n s) ∙ doubleRounds-length n s

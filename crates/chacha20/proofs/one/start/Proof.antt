@@ -1,0 +1,76 @@
+use Rattle.chacha20.proofs.Laws.{cons}
+use Rattle.chacha20.specs.ChaCha.{startOf}
+use mathlib.Core.Path.{refl}
+use borrow.Author.Needs.{needs}
+use Rattle.chacha20.proofs.one.start.Statement.{statement}
+use Rattle.chacha20.proofs.one.start.Tie as tie
+
+key-word-requires : tie.Need-key-word-requires
+key-word-requires c κs = search needs
+
+key-word-requires-2 : tie.Need-key-word-requires-2
+key-word-requires-2 c κs = search needs
+
+key-word-requires-3 : tie.Need-key-word-requires-3
+key-word-requires-3 c κs = search needs
+
+key-word-requires-4 : tie.Need-key-word-requires-4
+key-word-requires-4 c κs = search needs
+
+key-word-requires-5 : tie.Need-key-word-requires-5
+key-word-requires-5 c κs = search needs
+
+key-word-requires-6 : tie.Need-key-word-requires-6
+key-word-requires-6 c κs = search needs
+
+key-word-requires-7 : tie.Need-key-word-requires-7
+key-word-requires-7 c κs = search needs
+
+key-word-requires-8 : tie.Need-key-word-requires-8
+key-word-requires-8 c κs = search needs
+
+nonce-word-requires : tie.Need-nonce-word-requires
+nonce-word-requires c κs = search needs
+
+nonce-word-requires-2 : tie.Need-nonce-word-requires-2
+nonce-word-requires-2 c κs = search needs
+
+nonce-word-requires-3 : tie.Need-nonce-word-requires-3
+nonce-word-requires-3 c κs = search needs
+
+returns : tie.Need-returns
+unfolding startOf
+returns c =
+    cons refl
+    (cons refl
+    (cons refl
+    (cons refl
+    (cons (c .before .before .before .before .before .before .before .before .before .before .key-word .ensures)
+    (cons (c .before .before .before .before .before .before .before .before .before .key-word2 .ensures)
+    (cons (c .before .before .before .before .before .before .before .before .key-word3 .ensures)
+    (cons (c .before .before .before .before .before .before .before .key-word4 .ensures)
+    (cons (c .before .before .before .before .before .before .key-word5 .ensures)
+    (cons (c .before .before .before .before .before .key-word6 .ensures)
+    (cons (c .before .before .before .before .key-word7 .ensures)
+    (cons (c .before .before .before .key-word8 .ensures)
+    (cons refl
+    (cons (c .before .before .nonce-word .ensures)
+    (cons (c .before .nonce-word2 .ensures)
+    (cons (c .nonce-word3 .ensures) refl)))))))))))))))
+
+pub start-spec : {M : Type 1} → statement M
+start-spec =
+    tie.close
+    (tie.spec
+    key-word-requires
+    key-word-requires-2
+    key-word-requires-3
+    key-word-requires-4
+    key-word-requires-5
+    key-word-requires-6
+    key-word-requires-7
+    key-word-requires-8
+    nonce-word-requires
+    nonce-word-requires-2
+    nonce-word-requires-3
+    returns)

@@ -1,0 +1,4 @@
+pub mod ChaCha
+pub mod Nonce
+pub mod Lanes
+pub mod Vector
