@@ -1,0 +1,105 @@
+#include "plain.h"
+#include <string.h>
+
+static uint32_t rotl(uint32_t x, int k) { return x << k | x >> (32 - k); }
+static uint32_t rotr(uint32_t x, int k) { return x >> k | x << (32 - k); }
+
+/* ChaCha20, RFC 8439 section 2.3 */
+
+static uint32_t load_le(const uint8_t *p) {
+    return p[0] | (uint32_t)p[1] << 8 | (uint32_t)p[2] << 16 | (uint32_t)p[3] << 24;
+}
+
+static void quarter(uint32_t *s, int a, int b, int c, int d) {
+    s[a] += s[b]; s[d] = rotl(s[d] ^ s[a], 16);
+    s[c] += s[d]; s[b] = rotl(s[b] ^ s[c], 12);
+    s[a] += s[b]; s[d] = rotl(s[d] ^ s[a], 8);
+    s[c] += s[d]; s[b] = rotl(s[b] ^ s[c], 7);
+}
+
+void plain_chacha20_block(const uint8_t key[32], uint32_t counter, const uint8_t nonce[12], uint8_t out[64]) {
+    uint32_t start[16] = {0x61707865, 0x3320646e, 0x79622d32, 0x6b206574}, s[16];
+    for (int i = 0; i < 8; i++) start[4 + i] = load_le(key + 4 * i);
+    start[12] = counter;
+    for (int i = 0; i < 3; i++) start[13 + i] = load_le(nonce + 4 * i);
+    memcpy(s, start, sizeof s);
+    for (int i = 0; i < 10; i++) {
+        quarter(s, 0, 4, 8, 12);
+        quarter(s, 1, 5, 9, 13);
+        quarter(s, 2, 6, 10, 14);
+        quarter(s, 3, 7, 11, 15);
+        quarter(s, 0, 5, 10, 15);
+        quarter(s, 1, 6, 11, 12);
+        quarter(s, 2, 7, 8, 13);
+        quarter(s, 3, 4, 9, 14);
+    }
+    for (int i = 0; i < 16; i++) {
+        uint32_t v = s[i] + start[i];
+        for (int j = 0; j < 4; j++) out[4 * i + j] = v >> 8 * j;
+    }
+}
+
+/* SHA-256, FIPS 180-4 section 6.2 */
+
+static const uint32_t K[64] = {
+    0x428a2f98, 0x71374491, 0xb5c0fbcf, 0xe9b5dba5, 0x3956c25b, 0x59f111f1, 0x923f82a4, 0xab1c5ed5,
+    0xd807aa98, 0x12835b01, 0x243185be, 0x550c7dc3, 0x72be5d74, 0x80deb1fe, 0x9bdc06a7, 0xc19bf174,
+    0xe49b69c1, 0xefbe4786, 0x0fc19dc6, 0x240ca1cc, 0x2de92c6f, 0x4a7484aa, 0x5cb0a9dc, 0x76f988da,
+    0x983e5152, 0xa831c66d, 0xb00327c8, 0xbf597fc7, 0xc6e00bf3, 0xd5a79147, 0x06ca6351, 0x14292967,
+    0x27b70a85, 0x2e1b2138, 0x4d2c6dfc, 0x53380d13, 0x650a7354, 0x766a0abb, 0x81c2c92e, 0x92722c85,
+    0xa2bfe8a1, 0xa81a664b, 0xc24b8b70, 0xc76c51a3, 0xd192e819, 0xd6990624, 0xf40e3585, 0x106aa070,
+    0x19a4c116, 0x1e376c08, 0x2748774c, 0x34b0bcb5, 0x391c0cb3, 0x4ed8aa4a, 0x5b9cca4f, 0x682e6ff3,
+    0x748f82ee, 0x78a5636f, 0x84c87814, 0x8cc70208, 0x90befffa, 0xa4506ceb, 0xbef9a3f7, 0xc67178f2,
+};
+
+static void compress(uint32_t h[8], const uint8_t *p) {
+    uint32_t w[64], v[8];
+    for (int t = 0; t < 16; t++)
+        w[t] = (uint32_t)p[4 * t] << 24 | p[4 * t + 1] << 16 | p[4 * t + 2] << 8 | p[4 * t + 3];
+    for (int t = 16; t < 64; t++) {
+        uint32_t a = w[t - 15], b = w[t - 2];
+        w[t] = (rotr(b, 17) ^ rotr(b, 19) ^ b >> 10) + w[t - 7] + (rotr(a, 7) ^ rotr(a, 18) ^ a >> 3) + w[t - 16];
+    }
+    memcpy(v, h, sizeof v);
+    for (int t = 0; t < 64; t++) {
+        uint32_t a = v[0], e = v[4];
+        uint32_t t1 = v[7] + (rotr(e, 6) ^ rotr(e, 11) ^ rotr(e, 25)) + ((e & v[5]) ^ (~e & v[6])) + K[t] + w[t];
+        uint32_t t2 = (rotr(a, 2) ^ rotr(a, 13) ^ rotr(a, 22)) + ((a & v[1]) ^ (a & v[2]) ^ (v[1] & v[2]));
+        v[7] = v[6]; v[6] = v[5]; v[5] = e; v[4] = v[3] + t1;
+        v[3] = v[2]; v[2] = v[1]; v[1] = a; v[0] = t1 + t2;
+    }
+    for (int i = 0; i < 8; i++) h[i] += v[i];
+}
+
+void plain_sha256(const uint8_t *m, size_t len, uint8_t out[32]) {
+    uint32_t h[8] = {0x6a09e667, 0xbb67ae85, 0x3c6ef372, 0xa54ff53a, 0x510e527f, 0x9b05688c, 0x1f83d9ab, 0x5be0cd19};
+    uint8_t tail[128] = {0};
+    size_t whole = len / 64 * 64, rest = len - whole, blocks = rest < 56 ? 1 : 2;
+    for (size_t at = 0; at < whole; at += 64) compress(h, m + at);
+    memcpy(tail, m + whole, rest);
+    tail[rest] = 0x80;
+    for (int j = 0; j < 8; j++) tail[64 * blocks - 1 - j] = (uint64_t)len * 8 >> 8 * j;
+    for (size_t b = 0; b < blocks; b++) compress(h, tail + 64 * b);
+    for (int i = 0; i < 32; i++) out[i] = h[i / 4] >> (24 - 8 * (i % 4));
+}
+
+/* The fold over GF(2^64), the product bit by bit */
+
+static uint64_t product(uint64_t g, uint64_t a) {
+    uint64_t r = 0;
+    for (int i = 0; i < 64; i++) {
+        if (a >> i & 1) r ^= g;
+        g = g << 1 ^ (g >> 63) * 27;
+    }
+    return r;
+}
+
+uint64_t plain_fold(uint64_t key, const uint8_t *s, size_t len) {
+    uint64_t acc = 0;
+    for (size_t at = 0; at + 8 <= len; at += 8) {
+        uint64_t w = 0;
+        for (int j = 0; j < 8; j++) w |= (uint64_t)s[at + j] << 8 * j;
+        acc = product(key, acc) ^ w;
+    }
+    return acc;
+}
