@@ -1,0 +1,53 @@
+-- The marked cases of paper 01, 'Edges', as one table about the defining rules. Assumes nothing.
+use mathlib.Core.Bool.{Bool, true, false}
+use mathlib.Core.List.{List, [], _∷_}
+use Prim.Native.Nat.{ℕ}
+use lib.Dec.{eqb}
+use Rattle.words.specs.Xor.{_⊕_, xorList, scale}
+use Rattle.gf64.specs.Field.{fold, foldBytes}
+use Rattle.gf64.specs.Check.{columnSide, choiceSide}
+
+pub data Case : Type 0 where
+  -- a key and words: their fold
+  folded : ℕ → List ℕ → Case
+  -- a key, the choice column, a column of tree 0, the bit of delta, and what is added to the honest choice fold and to the
+  -- honest fold of the column: 1 where the two sides of the check are equal, 0 where not
+  checked : ℕ → List ℕ → List ℕ → ℕ → ℕ → ℕ → Case
+
+abbrev pub truth : Bool → ℕ
+truth true = 1
+truth false = 0
+
+-- what the rules give
+unfoldable pub gives : Case → List ℕ
+gives (folded g ws) = fold g ws ∷ []
+gives (checked g u v d x y) =
+    truth (eqb (columnSide g (foldBytes g v ⊕ y) (xorList v (scale d u))) (choiceSide d (foldBytes g u ⊕ x))) ∷ []
+
+pub record Row : Type 0 where
+  -- the number after the M
+  pub mark : ℕ
+  pub case : Case
+  pub result : List ℕ
+
+-- two columns of two words, for M12: any would do
+abbrev pub choices : List ℕ
+choices = 1 ∷ 0 ∷ 0 ∷ 0 ∷ 0 ∷ 0 ∷ 0 ∷ 0 ∷ 5 ∷ 0 ∷ 0 ∷ 0 ∷ 0 ∷ 0 ∷ 0 ∷ 0 ∷ []
+
+abbrev pub column : List ℕ
+column = 3 ∷ 0 ∷ 0 ∷ 0 ∷ 0 ∷ 0 ∷ 0 ∷ 0x80 ∷ 0 ∷ 0 ∷ 0 ∷ 7 ∷ 0 ∷ 0 ∷ 0 ∷ 0 ∷ []
+
+unfoldable pub table : List Row
+table =
+    record { mark = 1; case = folded 0x0 (0x1 ∷ 0x5 ∷ []); result = 0x5 ∷ [] }
+    ∷ record { mark = 2; case = folded 0x1 (0x3 ∷ 0x5 ∷ []); result = 0x6 ∷ [] }
+    ∷ record { mark = 3; case = folded 0x2 (0x1 ∷ 0x5 ∷ []); result = 0x7 ∷ [] }
+    ∷ record { mark = 4; case = folded 0x2 (0x8000000000000000 ∷ 0x0 ∷ []); result = 0x1b ∷ [] }
+    ∷ record { mark = 5; case = folded 0x8000000000000000 (0x2 ∷ 0x0 ∷ []); result = 0x1b ∷ [] }
+    ∷ record { mark = 6; case = folded 0x3 (0x3 ∷ 0x0 ∷ []); result = 0x5 ∷ [] }
+    ∷ record { mark = 7; case = folded 0x8000000000000000 (0x8000000000000000 ∷ 0x0 ∷ []); result = 0xc00000000000005a ∷ [] }
+    ∷ record { mark = 12; case = checked 0x2 choices column 0 9 0; result = 1 ∷ [] }
+    ∷ record { mark = 12; case = checked 0x2 choices column 1 9 0; result = 0 ∷ [] }
+    ∷ record { mark = 12; case = checked 0x2 choices column 0 9 9; result = 0 ∷ [] }
+    ∷ record { mark = 12; case = checked 0x2 choices column 1 9 9; result = 1 ∷ [] }
+    ∷ []

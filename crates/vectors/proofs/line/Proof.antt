@@ -1,0 +1,33 @@
+use native.Mathlib.Omega.{arith}
+use lib.ListN.{length, length-take}
+use mathlib.Core.Path.{sym, ap, _∙_}
+use borrow.Author.Needs.{needs}
+use Rattle.vectors.proofs.line.Statement.{statement}
+use Rattle.vectors.proofs.line.Tie as tie
+
+line-requires : tie.Need-line-requires
+line-requires c κs = search needs
+
+array-share-prefix-bytes : tie.Need-array-share-prefix-bytes
+array-share-prefix-bytes c =
+    let r = c .before .line in
+    omega (arith, r .ensures .long, ap length (r .ensures .bytes), length-take (r .result .len) (r .result .bytes))
+
+slice-aggregate-write-all : tie.Need-slice-aggregate-write-all
+slice-aggregate-write-all c = let r = c .before .before .line in r .ensures .long ∙ sym (ap length (r .ensures .bytes))
+
+write-all-requires : tie.Need-write-all-requires
+write-all-requires c κs = search needs
+
+returns : tie.Need-returns
+returns c = search needs
+
+pub line-spec : {M : Type 1} → statement M
+line-spec =
+    tie.close
+    (tie.spec
+    line-requires
+    array-share-prefix-bytes
+    slice-aggregate-write-all
+    write-all-requires
+    returns)

@@ -1,0 +1,103 @@
+// Runs the proved functions on the records of standard input, and prints what each gives: a line a record. The records and the
+// lines to be printed are written by reference/. What a program reads and writes no contract can say, so these functions have
+// none; that the lines are right is for the comparison to show.
+use libc::STDIN_FILENO;
+use libc::STDOUT_FILENO;
+ghost use Prim.Native.Nat.{_*_, _≤_};
+ghost use lib.ListN.{length};
+
+// Prints some bytes in hexadecimal digits, and a newline.
+fn print(s: &[u8]) {
+    let mut i = 0;
+    while i < s.len() {
+        io::print_hex(STDOUT_FILENO, s[i] as u64, 2);
+        i += 1;
+    }
+    io::write_all(STDOUT_FILENO, b"\n");
+}
+
+// A key, a counter and a nonce: the block.
+fn block(p: &[u8]) {
+    if p.len() != 48 {
+        return;
+    }
+    let mut key = [0u8; 32];
+    words::copy_part(&mut key, 0, &p[0..32]);
+    let mut nonce = [0u8; 12];
+    words::copy_part(&mut nonce, 0, &p[36..48]);
+    print(&chacha20::one::block(&key, words::load32(p, 32), &nonce));
+}
+
+// Four keys in lanes.
+fn load_keys(p: &[u8]) -> [u32; 32]
+    requires { ⌜ 128 ≤ length (now p) ⌝ }
+{
+    let mut keys = [0u32; 32];
+    let mut i = 0;
+    while i < 32 {
+        keys[i] = words::load32(p, 4 * i);
+        i += 1;
+    }
+    keys
+}
+
+// Four keys in lanes, a counter and a nonce: the four blocks in lanes.
+fn four_blocks(p: &[u8]) {
+    if p.len() != 144 {
+        return;
+    }
+    let keys = load_keys(p);
+    let mut nonce = [0u8; 12];
+    words::copy_part(&mut nonce, 0, &p[132..144]);
+    let t = chacha20::four::block(&keys, words::load32(p, 128), &nonce);
+    let mut out = [0u8; 256];
+    words::store_words(&mut out, &t);
+    print(&out);
+}
+
+// A use number and a batch number: the nonce.
+fn nonce(p: &[u8]) {
+    if p.len() != 8 {
+        return;
+    }
+    print(&chacha20::nonce(words::load32(p, 0), words::load32(p, 4)));
+}
+
+// An input of foldprint: its line.
+fn line(p: &[u8]) {
+    let l = foldtext::line(p);
+    let len = l.len;
+    let bytes = l.bytes;
+    io::write_all(STDOUT_FILENO, &bytes[..len]);
+}
+
+fn case(kind: u8, p: &[u8]) {
+    match kind {
+        1 => block(p),
+        4 => line(p),
+        5 => four_blocks(p),
+        8 => nonce(p),
+        _ => {}
+    }
+}
+
+// Records one after the other: a kind, the length of what follows in 4 bytes, and that.
+fn run(s: &[u8]) {
+    let mut at = 0;
+    while 5 <= s.len() - at {
+        let body = at + 5;
+        let n = words::load32(s, at + 1) as usize;
+        if s.len() - body < n {
+            return;
+        }
+        let end = body + n;
+        case(s[at], &s[body..end]);
+        at = end;
+    }
+}
+
+fn main() {
+    let mut buffer = io::large_buffer();
+    let n = io::read_full(STDIN_FILENO, &mut buffer);
+    run(&buffer[..n]);
+}

@@ -1,0 +1,36 @@
+"""The ChaCha20 block function, from RFC 8439 section 2, and paper 01's nonces."""
+
+MASK = 0xFFFFFFFF
+
+
+def rotate_left(x, n):
+    return ((x << n) & MASK) | (x >> (32 - n))
+
+
+def quarter_round(state, a, b, c, d):
+    for first, second in ((16, 12), (8, 7)):
+        state[a] = (state[a] + state[b]) & MASK
+        state[d] = rotate_left(state[d] ^ state[a], first)
+        state[c] = (state[c] + state[d]) & MASK
+        state[b] = rotate_left(state[b] ^ state[c], second)
+
+
+def words(data):
+    return [int.from_bytes(data[i:i + 4], "little") for i in range(0, len(data), 4)]
+
+
+def block(key, counter, nonce):
+    assert len(key) == 32 and len(nonce) == 12
+    start = words(b"expand 32-byte k") + words(key) + [counter] + words(nonce)
+    state = list(start)
+    for _ in range(10):
+        for i in range(4):
+            quarter_round(state, i, 4 + i, 8 + i, 12 + i)
+        for i in range(4):
+            quarter_round(state, i, 4 + (i + 1) % 4, 8 + (i + 2) % 4, 12 + (i + 3) % 4)
+    return b"".join(((x + y) & MASK).to_bytes(4, "little") for x, y in zip(state, start))
+
+
+def nonce(use, batch):
+    """Paper 01, 'Trees and streams'."""
+    return use.to_bytes(4, "little") + batch.to_bytes(4, "little") + bytes(4)

@@ -1,0 +1,126 @@
+#!/usr/bin/env python3
+"""Writes what the programs are run on and what they must print, from this implementation alone.
+
+usage: write.py           write the files anew
+       write.py --check   write nothing; fail where a stored file is not what would be written
+"""
+
+import pathlib
+import random
+import sys
+
+import chacha20
+import gf64
+import published
+import sha256
+
+ROOT = pathlib.Path(__file__).resolve().parent.parent
+
+# What a record of the program vectors asks for.
+BLOCK, DIGEST, REPEATED, LINE, FOUR_BLOCKS, FOUR_DIGESTS, FOUR_FOLDS, NONCE = range(1, 9)
+
+
+def lanes(parts):
+    """Four lists of 4-byte words side by side: word w of lane l at 4w + l."""
+    return b"".join(parts[l][4 * w:4 * w + 4] for w in range(len(parts[0]) // 4) for l in range(4))
+
+
+class Vectors:
+    """Records and the lines that they give: a kind, the length of what follows, and that."""
+
+    def __init__(self):
+        self.asked = b""
+        self.lines = []
+
+    def add(self, kind, payload, line):
+        self.asked += bytes([kind]) + len(payload).to_bytes(4, "little") + payload
+        self.lines.append(line)
+
+    def block(self, key, counter, nonce):
+        payload = key + counter.to_bytes(4, "little") + nonce
+        self.add(BLOCK, payload, chacha20.block(key, counter, nonce).hex())
+
+    def four_blocks(self, keys, counter, nonce):
+        payload = lanes(keys) + counter.to_bytes(4, "little") + nonce
+        self.add(FOUR_BLOCKS, payload, lanes([chacha20.block(k, counter, nonce) for k in keys]).hex())
+
+    def nonce(self, use, batch):
+        payload = use.to_bytes(4, "little") + batch.to_bytes(4, "little")
+        self.add(NONCE, payload, chacha20.nonce(use, batch).hex())
+
+    def digest(self, message):
+        self.add(DIGEST, message, sha256.digest(message).hex())
+
+    def repeated(self, count, byte):
+        self.add(REPEATED, count.to_bytes(4, "little") + bytes([byte]), sha256.digest(bytes([byte]) * count).hex())
+
+    def four_digests(self, messages):
+        self.add(FOUR_DIGESTS, b"".join(messages), b"".join(map(sha256.digest, messages)).hex())
+
+    def line(self, data):
+        self.add(LINE, data, gf64.foldprint(data).rstrip("\n"))
+
+    def four_folds(self, key, columns):
+        folds = [gf64.fold(key, gf64.words(c)).to_bytes(8, "little") for c in columns]
+        self.add(FOUR_FOLDS, key.to_bytes(8, "little") + b"".join(columns), b"".join(folds).hex())
+
+
+def vectors():
+    rng = random.Random(8439)
+    v = Vectors()
+    for key, counter, nonce, _ in published.BLOCKS:
+        v.block(key, counter, bytes.fromhex(nonce))
+    for message, _ in published.DIGESTS:
+        v.digest(message)
+    v.repeated(1000000, ord("a"))
+    assert v.lines[-1] == published.MILLION
+    for key, words, _ in published.FOLDS:
+        v.line(b"".join(x.to_bytes(8, "little") for x in [key] + words))
+    for length in (0, 8, 15, 17, 135, 137, 144, 1000):
+        v.line(rng.randbytes(length))
+    for _ in range(80):
+        v.block(rng.randbytes(32), rng.randrange(1 << 32), rng.randbytes(12))
+    v.block(b"\xff" * 32, 0xFFFFFFFF, b"\xff" * 12)
+    for use, batch in ((0, 0), (1, 1), (1, 0xFFFFFFFF), (0xFFFFFFFF, 0x01020304)):
+        v.nonce(use, batch)
+    for length in range(201):
+        v.digest(rng.randbytes(length))
+    for count in range(1, 17):
+        for _ in range(5):
+            v.line(rng.randbytes(8 + 8 * count))
+        v.line(b"\xff" * (8 + 8 * count))
+    for _ in range(20):
+        v.four_blocks([rng.randbytes(32) for _ in range(4)], rng.randrange(1 << 32), rng.randbytes(12))
+        v.four_digests([rng.randbytes(32) for _ in range(4)])
+    for count in range(1, 17):
+        v.four_folds(rng.randrange(1 << 64), [rng.randbytes(8 * count) for _ in range(4)])
+    v.four_folds((1 << 64) - 1, [b"\xff" * 128] * 4)
+    return v
+
+
+def files():
+    m3 = b"".join(x.to_bytes(8, "little") for x in (2, 1, 5))
+    v = vectors()
+    return {
+        "crates/foldprint/stdin": m3,
+        "crates/foldprint/stdout": gf64.foldprint(m3).encode(),
+        "crates/vectors/stdin": v.asked,
+        "crates/vectors/stdout": "".join(line + "\n" for line in v.lines).encode(),
+    }
+
+
+def main():
+    published.check()
+    differ = 0
+    for name, content in files().items():
+        path = ROOT / name
+        if sys.argv[1:] != ["--check"]:
+            path.write_bytes(content)
+        elif not path.exists() or path.read_bytes() != content:
+            differ += 1
+            print("reference: %s is not what the second implementation gives" % name)
+    sys.exit(1 if differ else 0)
+
+
+if __name__ == "__main__":
+    main()
