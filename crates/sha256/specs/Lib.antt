@@ -1,0 +1,3 @@
+pub mod Sha
+pub mod Rest
+pub mod Vector
