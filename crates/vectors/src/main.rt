@@ -3,6 +3,7 @@
 // none; that the lines are right is for the comparison to show.
 use libc::STDIN_FILENO;
 use libc::STDOUT_FILENO;
+ghost use mathlib.Core.Path.{_≡_};
 ghost use Prim.Native.Nat.{_*_, _≤_};
 ghost use lib.ListN.{length};
 
@@ -26,6 +27,31 @@ fn block(p: &[u8]) {
     let mut nonce = [0u8; 12];
     words::copy_part(&mut nonce, 0, &p[36..48]);
     print(&chacha20::one::block(&key, words::load32(p, 32), &nonce));
+}
+
+// A message: its digest.
+fn digest(p: &[u8]) {
+    print(&sha256::digest(p));
+}
+
+// A million of a byte. The `ensures` gives only the length, which lending the array as a slice needs.
+fn million(b: u8) -> [u8; 1000000]
+    ensures { λ r. ⌜ 1000000 ≡ length r ⌝ }
+{
+    [b; 1000000]
+}
+
+// A count and a byte: the digest of so many of it.
+fn repeated(p: &[u8]) {
+    if p.len() != 5 {
+        return;
+    }
+    let n = words::load32(p, 0) as usize;
+    if 1000000 < n {
+        return;
+    }
+    let m = million(p[4]);
+    print(&sha256::digest(&m[..n]));
 }
 
 // Four keys in lanes.
@@ -74,6 +100,8 @@ fn line(p: &[u8]) {
 fn case(kind: u8, p: &[u8]) {
     match kind {
         1 => block(p),
+        2 => digest(p),
+        3 => repeated(p),
         4 => line(p),
         5 => four_blocks(p),
         8 => nonce(p),
