@@ -1,14 +1,15 @@
 -- The fold of byte ranges of whole words is linear. Assumes nothing.
 use mathlib.Core.Path.{_≡_, refl, sym, ap, ap₂, _∙_}
 use mathlib.Core.List.{List, _∷_}
-use Prim.Native.Nat.{ℕ, zero, suc, _+_, _*_, _/_, _^_, _<_}
-use native.Mathlib.Nat.{zero-mul, one-mul}
+use Prim.Native.Nat.{ℕ, zero, suc, _+_, _*_, _/_, _^_, _<_, _≤_}
+use native.Mathlib.Nat.{zero-mul, one-mul, add-zero}
 use native.Mathlib.Omega.{arith}
 use native.Mathlib.Decide.{decLt}
 use lib.Bits.{bitXor, xor-block}
 use lib.Pow.{pow-pos}
-use lib.ListN.{length, getD, replicate, length-replicate, getD-replicate, List·getD-eq-default}
-use Rattle.words.specs.Bytes.{Bytes, word64}
+use lib.ListN.{length, getD, drop, length-drop, replicate, length-replicate, getD-replicate, List·getD-eq-default}
+use lib.Seq.{getD-take, getD-drop, length-take-le}
+use Rattle.words.specs.Bytes.{Bytes, word64, part}
 use Rattle.words.specs.Xor.{xorEach, xorList, scale}
 use Rattle.words.proofs.Xor.{digit}
 use Rattle.words.proofs.Lists.{xorEach-length, xorList-at, scale-one, scale-zero}
@@ -102,3 +103,28 @@ words64-lt (suc n) s at h (suc i) = words64-lt n s (at + 8) h i
 
 pub foldBytes-lt : (g : ℕ) (s : List ℕ) → g < 2 ^ 64 → Bytes s → foldBytes g s < 2 ^ 64
 foldBytes-lt g s hg h = fold-lt g (words64 (length s / 8) s 0) hg (words64-lt (length s / 8) s 0 h)
+
+-- ---- the fold of a part
+
+word64-part : (s : List ℕ) (a n at : ℕ) → at + 8 ≤ n → word64 (part a n s) at ≡ word64 s (a + at)
+word64-part s a n at h =
+    let e : (k : ℕ) → a + (at + k) ≡ a + at + k = λ k. omega arith in
+    omega
+    (arith, byte at _ refl (omega arith), byte (at + 1) _ (e 1) (omega arith), byte (at + 2) _ (e 2) (omega arith), byte (at + 3) _ (e 3) (omega arith), byte (at + 4) _ (e 4) (omega arith), byte (at + 5) _ (e 5) (omega arith), byte (at + 6) _ (e 6) (omega arith), byte (at + 7) _ (e 7) (omega arith))
+  where
+    byte : (p q : ℕ) → a + p ≡ q → p < n → getD (part a n s) p 0 ≡ getD s q 0
+    byte p q e l = getD-take n (drop a s) p 0 l ∙ getD-drop a s p 0 ∙ ap (λ (i : ℕ). getD s i 0) e
+
+words64-part : (m : ℕ) (s : List ℕ) (a n at : ℕ) → at + 8 * m ≤ n → words64 m (part a n s) at ≡ words64 m s (a + at)
+unfolding words64
+words64-part zero s a n at h = refl
+words64-part (suc m) s a n at h =
+    let e : a + (at + 8) ≡ a + at + 8 = omega arith in
+    ap₂ _∷_ (word64-part s a n at (omega arith))
+    (words64-part m s a n (at + 8) (omega arith) ∙ ap (words64 m s) e)
+
+pub foldBytes-part : (g : ℕ) (s : List ℕ) (a n : ℕ) → a + n ≤ length s
+    → foldBytes g (part a n s) ≡ fold g (words64 (n / 8) s a)
+foldBytes-part g s a n h =
+    ap (λ (m : ℕ). fold g (words64 (m / 8) (part a n s) 0)) (length-take-le n (drop a s) (omega (arith, length-drop a s)))
+    ∙ ap (fold g) (words64-part (n / 8) s a n 0 (omega arith) ∙ ap (words64 (n / 8) s) (add-zero a))

@@ -86,18 +86,18 @@ fold-lt g ws hg h = foldFrom-lt g 0 ws hg (pow-pos 64) h
 
 -- ---- one more bit of a product, one more word of a fold
 
-pub gather : (i r p b : ℕ) → i < 64
-    → bitXor (bitXor r (b % 2 * p)) (timesLow (64 - (i + 1)) (timesX p) (b / 2)) ≡ bitXor r (timesLow (64 - i) p b)
+pub gather : (n i r p b : ℕ) → i < n
+    → bitXor (bitXor r (b % 2 * p)) (timesLow (n - (i + 1)) (timesX p) (b / 2)) ≡ bitXor r (timesLow (n - i) p b)
 unfolding timesLow
-gather i r p b h =
-    let left : suc (64 - (i + 1)) ≡ 64 - i = omega arith in
-    xor-assoc r (b % 2 * p) (timesLow (64 - (i + 1)) (timesX p) (b / 2)) ∙ ap (λ (n : ℕ). bitXor r (timesLow n p b)) left
+gather n i r p b h =
+    let left : suc (n - (i + 1)) ≡ n - i = omega arith in
+    xor-assoc r (b % 2 * p) (timesLow (n - (i + 1)) (timesX p) (b / 2)) ∙ ap (λ (m : ℕ). bitXor r (timesLow m p b)) left
 
-pub gathered : (i r p b : ℕ) → 64 ≤ i → bitXor r (timesLow (64 - i) p b) ≡ r
+pub gathered : (n i r p b : ℕ) → n ≤ i → bitXor r (timesLow (n - i) p b) ≡ r
 unfolding timesLow
-gathered i r p b h =
-    let none : 64 - i ≡ 0 = omega arith in
-    ap (λ (n : ℕ). bitXor r (timesLow n p b)) none ∙ xor-zero-r r
+gathered n i r p b h =
+    let none : n - i ≡ 0 = omega arith in
+    ap (λ (m : ℕ). bitXor r (timesLow m p b)) none ∙ xor-zero-r r
 
 -- m bytes are left, from a place on
 pub more-word : (g acc m at : ℕ) (s : List ℕ) → 8 ≤ m
