@@ -91,7 +91,7 @@ foldBytes-scale g d s h =
 
 -- ---- folds of bytes are words
 
-word64-lt : (s : List ℕ) (at : ℕ) → Bytes s → word64 s at < 2 ^ 64
+pub word64-lt : (s : List ℕ) (at : ℕ) → Bytes s → word64 s at < 2 ^ 64
 word64-lt s at h =
     omega (arith, h at, h (at + 1), h (at + 2), h (at + 3), h (at + 4), h (at + 5), h (at + 6), h (at + 7))
 

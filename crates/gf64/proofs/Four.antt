@@ -1,6 +1,6 @@
 -- Laws of products of four words in halves, by the table of a key. Assumes nothing.
 use mathlib.Core.Path.{_≡_, refl, sym, ap, ap₂, _∙_}
-use mathlib.Core.List.{List}
+use mathlib.Core.List.{List, [], _∷_}
 use Prim.Native.Nat.{ℕ, zero, suc, _+_, _-_, _*_, _/_, _%_, _^_, _<_, _≤_}
 use native.Mathlib.Nat.{zero-mul, one-mul, zero-add, div-one, mod-lt, not-suc-le-zero, le-of-suc-le-suc, suc-add}
 use native.Mathlib.Omega.{arith}
@@ -9,11 +9,12 @@ use lib.Bits.{bitXor, xor-mod, xor-block}
 use lib.Pow.{pow-pos, shr-shr, field, mod-mod-pow, high, low}
 use lib.ListN.{length, getD, set, length-set, length-append, replicate, List·getD-append}
 use lib.Seq.{getD-set-same, getD-set-other, getD-append-add}
-use Rattle.words.specs.Bytes.{word32, word64}
+use Rattle.words.specs.Bytes.{word32, word64, part}
 use Rattle.words.proofs.Xor.{digit, low-lt, xor-assoc}
 use Rattle.words.proofs.Numbers.{word64-halves}
-use Rattle.gf64.specs.Field.{timesX, timesLow}
-use Rattle.gf64.specs.Table.{joined, wordOf, power, row, rows, tableOf}
+use Rattle.gf64.specs.Field.{timesX, timesLow, fold, words64, foldBytes}
+use Rattle.gf64.specs.Table.{joined, wordOf, power, row, rows, tableOf, foldsOf}
+use Rattle.gf64.proofs.Bytes.{foldBytes-part}
 
 -- ---- words and their halves
 
@@ -191,3 +192,18 @@ added-more F l x y r₀ r e hl h a =
 
 pub no-words : (m : ℕ) → m < 4 → wordOf (replicate 8 0) m ≡ 0
 no-words = below4 (λ (m : ℕ). wordOf (replicate 8 0) m ≡ 0) refl refl refl refl
+
+-- ---- the folds of four columns
+
+pub folds-are : (g len : ℕ) (s acc : List ℕ) → length s ≡ 4 * len
+    → ((k : ℕ) → k < 4 → wordOf acc k ≡ fold g (words64 (len / 8) s (k * len)))
+    → wordOf acc 0 ∷ wordOf acc 1 ∷ wordOf acc 2 ∷ wordOf acc 3 ∷ [] ≡ foldsOf g len s
+folds-are g len s acc e h =
+    ap₂ _∷_ (column 0 0 (omega arith) (omega arith) (omega arith))
+    (ap₂ _∷_ (column 1 len (omega arith) (omega arith) (omega arith))
+    (ap₂ _∷_ (column 2 (2 * len) (omega arith) refl (omega arith))
+    (ap₂ _∷_ (column 3 (3 * len) (omega arith) refl (omega arith)) refl)))
+  where
+    column : (k p : ℕ) → k < 4 → k * len ≡ p → p + len ≤ length s → wordOf acc k ≡ foldBytes g (part p len s)
+    column k p hk q fits =
+        h k hk ∙ ap (λ (z : ℕ). fold g (words64 (len / 8) s z)) q ∙ sym (foldBytes-part g s p len fits)

@@ -1,4 +1,5 @@
--- Four words side by side, in halves of 32 bits, and the table by which a key multiplies them. Assumes nothing.
+-- How four words stand side by side, in halves of 32 bits, and the table by which a key multiplies them: layouts of the code,
+-- which paper 01 leaves open. Assumes nothing.
 use mathlib.Core.List.{List, [], _∷_, _++_}
 use Prim.Native.Nat.{ℕ, zero, suc, _+_, _*_, _/_, _%_, _^_}
 use lib.ListN.{getD}
@@ -31,7 +32,7 @@ rows (suc n) a = row a ++ rows n (timesX a)
 abbrev pub tableOf : ℕ → List ℕ
 tableOf g = rows 64 g
 
--- the folds of four columns of len bytes that stand one after the other
+-- the fold of each of four columns of len bytes that stand one after the other
 abbrev pub foldsOf : ℕ → ℕ → List ℕ → List ℕ
 foldsOf g len s =
     foldBytes g (part 0 len s)

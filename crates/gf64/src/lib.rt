@@ -47,14 +47,15 @@ pub fn mul(g: u64, a: u64) -> u64
     r
 }
 
-// The fold with a key of the whole words of a byte range.
+// The fold with a key of the whole words of a byte range; bytes past the last whole word are not folded.
 pub fn fold(key: u64, s: &[u8]) -> u64
     ensures { λ r. ⌜ r ≡ foldBytes key (now (s .entry)) ⌝ }
 {
     let mut acc: u64 = 0;
     let mut i: usize = 0;
     while 8 <= s.len() - i {
-        acc = mul(key, acc) ^ words::load64(s, i);
+        let w = words::load64(s, i);
+        acc = mul(key, acc) ^ w;
         i += 8;
     }
     acc
@@ -109,7 +110,8 @@ struct Halves {
     hi: u32,
 }
 
-// Adds X^i times the key times the sixteen low bits of b to word l of four, by the key's table.
+// Word l of four, in halves, with X^i times the key times the sixteen low bits of b added, by the key's table. (With fewer bits the
+// compiler unrolls the loop over the four words and no longer vectorizes it.)
 fn sixteen(t: &[u32; 512], i: usize, l: usize, b: u32, lo: u32, hi: u32) -> Halves
     requires { ⌜ (i + 16 ≤ 64) × (l < 4) ⌝ }
     ensures { λ r. ⌜ ((g : ℕ) → now (t .entry) ≡ tableOf g → joined (r .lo) (r .hi) ≡ (joined lo hi ⊕ timesLow 16 (power i g) b)) ⌝ }
@@ -128,7 +130,7 @@ fn sixteen(t: &[u32; 512], i: usize, l: usize, b: u32, lo: u32, hi: u32) -> Halv
     Halves { lo: x, hi: y }
 }
 
-// Sixteen bits of four words a, from bit i on, times the key, added to r.
+// Adds to four words r the key times bits i to i + 15 of four words a.
 fn lanes(t: &[u32; 512], i: usize, a: &[u32; 8], r: &mut [u32; 8])
     requires { ⌜ (i + 16 ≤ 64) × (i % 16 ≡ 0) × (length (now r) ≡ 8) ⌝ }
     ensures { λ _. ⌜ (length (now (r .exit)) ≡ 8) × ((g m : ℕ) → now (t .entry) ≡ tableOf g → m < 4 → wordOf (now (r .exit)) m ≡ (wordOf (now (r .entry)) m ⊕ timesLow 16 (power i g) (wordOf (now (a .entry)) m / 2 ^ i))) ⌝ }
@@ -159,7 +161,7 @@ fn products(t: &[u32; 512], a: &[u32; 8]) -> [u32; 8]
 
 // Adds to four words one of each of four columns of len bytes, from a place on.
 fn add_words(s: &[u8], len: usize, at: usize, r: &mut [u32; 8])
-    requires { ⌜ (at + 3 * len + 8 ≤ length (now s)) × (len ≤ 65536) × (length (now r) ≡ 8) ⌝ }
+    requires { ⌜ (at + 3 * len + 8 ≤ length (now s)) × (length (now r) ≡ 8) ⌝ }
     ensures { λ _. ⌜ ((m : ℕ) → m < 4 → wordOf (now (r .exit)) m ≡ (wordOf (now (r .entry)) m ⊕ word64 (now (s .entry)) (m * len + at))) ⌝ }
 {
     let mut k: usize = 0;
@@ -192,7 +194,7 @@ fn join_four(a: [u32; 8]) -> [u64; 4]
 
 // The folds of four columns of len bytes, one after the other, by the table of a key.
 pub fn fold_four(t: &[u32; 512], s: &[u8], len: usize) -> [u64; 4]
-    requires { ⌜ (length (now s) ≡ 4 * len) × (len ≤ 65536) ⌝ }
+    requires { ⌜ length (now s) ≡ 4 * len ⌝ }
     ensures { λ r. ⌜ ((g : ℕ) → now (t .entry) ≡ tableOf g → r ≡ foldsOf g len (now (s .entry))) ⌝ }
 {
     let mut acc = [0u32; 8];
