@@ -1,3 +1,4 @@
 pub mod Progress
 pub mod Words
 pub mod Blocks
+pub mod Lanes

@@ -8,34 +8,38 @@ use native.Mathlib.Omega.{arith}
 use lib.ListN.{length, getD, take, length-append, List·getD-append}
 use lib.Seq.{take-append-le, take-length, getD-take, getD-at}
 use Rattle.sha256.proofs.Progress.{Begun}
-use Rattle.sha256.specs.Sha.{wordAt, blockWords, nextWord, extended, scheduled}
+use Rattle.sha256.specs.Sha.{wordAt, tabulate, blockWords, nextWord, extended, scheduled}
 
-pub blockWords-length : (n : ℕ) (b : List ℕ) → length (blockWords n b) ≡ n
-unfolding blockWords
-blockWords-length zero b = refl
-blockWords-length (suc n) b =
-    length-append (blockWords n b) (wordAt b (4 * n) ∷ []) ∙ omega (arith, blockWords-length n b)
+pub tabulate-length : (n : ℕ) (f : ℕ → ℕ) → length (tabulate n f) ≡ n
+unfolding tabulate
+tabulate-length zero f = refl
+tabulate-length (suc n) f = length-append (tabulate n f) (f n ∷ []) ∙ omega (arith, tabulate-length n f)
 
-pub blockWords-at : (n : ℕ) (b : List ℕ) (t : ℕ) → t < n → getD (blockWords n b) t 0 ≡ wordAt b (4 * t)
-unfolding blockWords
-blockWords-at zero b t h = absurd (not-suc-le-zero h)
-blockWords-at (suc n) b t h = here (ℕ-discrete t n) (blockWords-at n b t)
+pub tabulate-at : (n : ℕ) (f : ℕ → ℕ) (t : ℕ) → t < n → getD (tabulate n f) t 0 ≡ f t
+unfolding tabulate
+tabulate-at zero f t h = absurd (not-suc-le-zero h)
+tabulate-at (suc n) f t h = here (ℕ-discrete t n) (tabulate-at n f t)
   where
-    here : Dec (t ≡ n) → (t < n → getD (blockWords n b) t 0 ≡ wordAt b (4 * t)) → getD (blockWords (suc n) b) t 0 ≡ wordAt b (4 * t)
-    here (yes e) before =
-        getD-at (blockWords n b) (wordAt b (4 * n)) [] 0 t (blockWords-length n b ∙ sym e)
-        ∙ ap (λ (i : ℕ). wordAt b (4 * i)) (sym e)
+    here : Dec (t ≡ n) → (t < n → getD (tabulate n f) t 0 ≡ f t) → getD (tabulate (suc n) f) t 0 ≡ f t
+    here (yes e) before = getD-at (tabulate n f) (f n) [] 0 t (tabulate-length n f ∙ sym e) ∙ ap f (sym e)
     here (no ne) before =
-        List·getD-append (blockWords n b) (wordAt b (4 * n) ∷ []) 0 t (omega (arith, blockWords-length n b))
-        ∙ before (omega arith)
+        List·getD-append (tabulate n f) (f n ∷ []) 0 t (omega (arith, tabulate-length n f)) ∙ before (omega arith)
 
-next-cong : {a b c d a′ b′ c′ d′ : ℕ} → a ≡ a′ → b ≡ b′ → c ≡ c′ → d ≡ d′ → nextWord a b c d ≡ nextWord a′ b′ c′ d′
+pub blockWords-length : (b : List ℕ) → length (blockWords b) ≡ 16
+unfolding blockWords
+blockWords-length b = tabulate-length 16 (λ t. wordAt b (4 * t))
+
+pub blockWords-at : (b : List ℕ) (t : ℕ) → t < 16 → getD (blockWords b) t 0 ≡ wordAt b (4 * t)
+unfolding blockWords
+blockWords-at b = tabulate-at 16 (λ t. wordAt b (4 * t))
+
+pub next-cong : {a b c d a′ b′ c′ d′ : ℕ} → a ≡ a′ → b ≡ b′ → c ≡ c′ → d ≡ d′ → nextWord a b c d ≡ nextWord a′ b′ c′ d′
 next-cong {a} {b} {c} {d} {a′} {b′} p q r s = ap₂ (λ (x y : ℕ). nextWord x y c d) p q ∙ ap₂ (nextWord a′ b′) r s
 
 module _ (b : List ℕ) where
   pub scheduled-length : (n : ℕ) → length (scheduled n b) ≡ n + 16
   unfolding scheduled extended
-  scheduled-length zero = blockWords-length 16 b
+  scheduled-length zero = blockWords-length b
   scheduled-length (suc n) =
       length-append (scheduled n b) (_ ∷ []) ∙ omega (arith, scheduled-length n)
 
@@ -56,10 +60,10 @@ module _ (b : List ℕ) where
   unfolding scheduled extended
   last n = getD-at (scheduled n b) _ [] 0 (n + 16) (scheduled-length n)
 
-  pub first-words : (n : ℕ) → take 16 (scheduled n b) ≡ blockWords 16 b
+  pub first-words : (n : ℕ) → take 16 (scheduled n b) ≡ blockWords b
   unfolding scheduled extended
   first-words zero =
-      ap (λ (i : ℕ). take i (blockWords 16 b)) (sym (blockWords-length 16 b)) ∙ take-length (blockWords 16 b)
+      ap (λ (i : ℕ). take i (blockWords b)) (sym (blockWords-length b)) ∙ take-length (blockWords b)
   first-words (suc n) =
       take-append-le 16 (scheduled n b) _ (omega (arith, scheduled-length n)) ∙ first-words n
 
@@ -68,7 +72,7 @@ module _ (b : List ℕ) where
   word-first t h =
       sym (getD-take 16 (scheduled 48 b) t 0 h)
       ∙ ap (λ (l : List ℕ). getD l t 0) (first-words 48)
-      ∙ blockWords-at 16 b t h
+      ∙ blockWords-at b t h
 
   pub word-next : (i : ℕ) → i < 48
       → getD (scheduled 48 b) (i + 16) 0

@@ -1,3 +1,4 @@
 pub mod Sha
 pub mod Rest
+pub mod Four
 pub mod Vector

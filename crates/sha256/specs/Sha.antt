@@ -86,10 +86,14 @@ initial =
       h = 0x5be0cd19;
     }
 
--- 5.2.1: the first n words of a block
-unfoldable pub blockWords : ℕ → List ℕ → List ℕ
-blockWords zero b = []
-blockWords (suc n) b = blockWords n b ++ (wordAt b (4 * n) ∷ [])
+-- the list f 0, .., f (n - 1)
+unfoldable pub tabulate : ℕ → (ℕ → ℕ) → List ℕ
+tabulate zero f = []
+tabulate (suc n) f = tabulate n f ++ (f n ∷ [])
+
+-- 5.2.1: the 16 words of a block
+unfoldable pub blockWords : List ℕ → List ℕ
+blockWords b = tabulate 16 (λ t. wordAt b (4 * t))
 
 -- 6.2.2, step 1: W_t from W_(t-2), W_(t-7), W_(t-15) and W_(t-16)
 unfoldable pub nextWord : ℕ → ℕ → ℕ → ℕ → ℕ
@@ -101,7 +105,7 @@ extended t w = w ++ (nextWord (getD w (t - 2) 0) (getD w (t - 7) 0) (getD w (t -
 
 -- 6.2.2, step 1: the schedule of a block: its 16 words, and n more
 unfoldable pub scheduled : ℕ → List ℕ → List ℕ
-scheduled zero b = blockWords 16 b
+scheduled zero b = blockWords b
 scheduled (suc n) b = extended (n + 16) (scheduled n b)
 
 -- 6.2.2, step 3: T1

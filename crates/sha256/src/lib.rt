@@ -3,6 +3,8 @@ ghost use mathlib.Core.Path.{_≡_};
 ghost use mathlib.Core.List.{_++_};
 ghost use Prim.Native.Nat.{_+_, _-_, _*_, _/_, _%_, _^_, _≤_, _<_};
 ghost use lib.ListN.{length, getD, take};
+ghost use Rattle.words.specs.Lanes.{lane, putLane};
+ghost use Rattle.sha256.specs.Four.{digests, padWords, laned, wordsOf, workOf, schedules, scheduleIn, fourRounds, fourInLanes, roundsInLanes, digestIn, digestsIn};
 ghost use Rattle.sha256.specs.Rest.{restOf, restLength};
 ghost use Rattle.sha256.specs.Sha.{ch, maj, bigSigma0, bigSigma1, smallSigma0, smallSigma1, constants, wordAt, longBytes, zeros, initial, blockWords, nextWord, scheduled, temp1, temp2, stepped, rounds, added, compressed, hashed, workBytes, digestOf};
 
@@ -183,7 +185,7 @@ fn word(s: &[u8], at: usize) -> u32
 // The 16 words of a block, with room for the other words of the schedule.
 fn load(b: &[u8]) -> [u32; 64]
     requires { ⌜ length (now b) ≡ 64 ⌝ }
-    ensures { λ r. ⌜ take 16 r ≡ blockWords 16 (now (b .entry)) ⌝ }
+    ensures { λ r. ⌜ take 16 r ≡ blockWords (now (b .entry)) ⌝ }
 {
     let mut w = [0u32; 64];
     for t in 0..16usize {
@@ -345,4 +347,176 @@ pub fn digest(m: &[u8]) -> [u8; 32]
     let end = rest_length(m.len());
     let r = rest(m);
     serialize(hash(v, &K, &r[..end]))
+}
+
+// Four messages of 32 bytes side by side, so that one instruction works on four words: word w of lane l stands at 4 * w + l.
+
+// Words 8 to 15 of the block of a message of 32 bytes: its padding.
+const PAD: [u32; 8] = [0x80000000, 0, 0, 0, 0, 0, 0, 256];
+
+// Word at / 4 of the block of message at % 4.
+fn first_word(m: &[u8], pad: &[u32; 8], at: usize) -> u32
+    requires { ⌜ (length (now m) ≡ 128) × (now pad ≡ padWords) × (at < 64) ⌝ }
+    ensures { λ r. ⌜ r ≡ getD (schedules (now (m .entry))) at 0 ⌝ }
+{
+    if at < 32 {
+        word(m, 32 * (at % 4) + 4 * (at / 4))
+    } else {
+        pad[at / 4 - 8]
+    }
+}
+
+fn load4(m: &[u8], pad: &[u32; 8]) -> [u32; 256]
+    requires { ⌜ (length (now m) ≡ 128) × (now pad ≡ padWords) ⌝ }
+    ensures { λ r. ⌜ take 64 r ≡ take 64 (schedules (now (m .entry))) ⌝ }
+{
+    let mut w = [0u32; 256];
+    for at in 0..64usize {
+        w[at] = first_word(m, pad, at);
+    }
+    w
+}
+
+fn schedule4(m: &[u8]) -> [u32; 256]
+    requires { ⌜ length (now m) ≡ 128 ⌝ }
+    ensures { λ r. ⌜ r ≡ schedules (now (m .entry)) ⌝ }
+{
+    let mut w = load4(m, &PAD);
+    for at in 0..192usize {
+        w[at + 64] = next(w[at + 56], w[at + 36], w[at + 4], w[at]);
+    }
+    w
+}
+
+// The working variables in lane l.
+fn get4(t: &[u32; 32], l: usize) -> Work
+    requires { ⌜ l < 4 ⌝ }
+    ensures { λ r. ⌜ r ≡ workOf (lane l 8 (now (t .entry))) ⌝ }
+{
+    Work {
+        a: t[0 + l],
+        b: t[4 + l],
+        c: t[8 + l],
+        d: t[12 + l],
+        e: t[16 + l],
+        f: t[20 + l],
+        g: t[24 + l],
+        h: t[28 + l],
+    }
+}
+
+fn put4(t: &mut [u32; 32], l: usize, s: Work)
+    requires { ⌜ l < 4 ⌝ }
+    ensures { λ _. ⌜ now (t .exit) ≡ putLane l 0 (wordsOf s) (now (t .entry)) ⌝ }
+{
+    t[0 + l] = s.a;
+    t[4 + l] = s.b;
+    t[8 + l] = s.c;
+    t[12 + l] = s.d;
+    t[16 + l] = s.e;
+    t[20 + l] = s.f;
+    t[24 + l] = s.g;
+    t[28 + l] = s.h;
+}
+
+// Rounds i to i + 3 in lane l.
+fn four(s: Work, k: &[u32; 64], w: &[u32; 256], i: usize, l: usize) -> Work
+    requires { ⌜ (now k ≡ constants) × (i + 3 < 64) × (l < 4) ⌝ }
+    ensures { λ r. ⌜ r ≡ fourRounds i (scheduleIn l (now (w .entry))) s ⌝ }
+{
+    let at = 4 * i + l;
+    let s1 = step(s, k[i], w[at]);
+    let s2 = step(s1, k[i + 1], w[at + 4]);
+    let s3 = step(s2, k[i + 2], w[at + 8]);
+    step(s3, k[i + 3], w[at + 12])
+}
+
+fn lanes4(t: &mut [u32; 32], k: &[u32; 64], w: &[u32; 256], i: usize)
+    requires { ⌜ (now k ≡ constants) × (i + 3 < 64) × (length (now t) ≡ 32) ⌝ }
+    ensures { λ _. ⌜ now (t .exit) ≡ fourInLanes i (now (w .entry)) (now (t .entry)) ⌝ }
+{
+    for l in 0..4usize {
+        let s = get4(&*t, l);
+        put4(&mut *t, l, four(s, k, w, i, l));
+    }
+}
+
+// A value in each lane.
+fn spread(s: Work) -> [u32; 32]
+    ensures { λ r. ⌜ r ≡ laned 8 (λ l. wordsOf s) ⌝ }
+{
+    [
+        s.a,
+        s.a,
+        s.a,
+        s.a,
+        s.b,
+        s.b,
+        s.b,
+        s.b,
+        s.c,
+        s.c,
+        s.c,
+        s.c,
+        s.d,
+        s.d,
+        s.d,
+        s.d,
+        s.e,
+        s.e,
+        s.e,
+        s.e,
+        s.f,
+        s.f,
+        s.f,
+        s.f,
+        s.g,
+        s.g,
+        s.g,
+        s.g,
+        s.h,
+        s.h,
+        s.h,
+        s.h,
+    ]
+}
+
+fn rounds4(k: &[u32; 64], w: &[u32; 256]) -> [u32; 32]
+    requires { ⌜ now k ≡ constants ⌝ }
+    ensures { λ r. ⌜ r ≡ roundsInLanes 64 (now (w .entry)) ⌝ }
+{
+    let mut t = spread(first_value());
+    let mut i: usize = 0;
+    while i < 64 {
+        lanes4(&mut t, k, w, i);
+        i += 4;
+    }
+    t
+}
+
+// The digest that lane l ends with.
+fn finish(t: &[u32; 32], l: usize) -> [u8; 32]
+    requires { ⌜ l < 4 ⌝ }
+    ensures { λ r. ⌜ r ≡ digestIn l (now (t .entry)) ⌝ }
+{
+    serialize(sum(get4(t, l), first_value()))
+}
+
+fn collect(t: &[u32; 32]) -> [u8; 128]
+    ensures { λ r. ⌜ r ≡ digestsIn 4 (now (t .entry)) ⌝ }
+{
+    let mut out = [0u8; 128];
+    for l in 0..4usize {
+        words::copy_part(&mut out, 32 * l, &finish(t, l));
+    }
+    out
+}
+
+// The digests of four messages of 32 bytes: that of message l stands where the message stood.
+pub fn digest4(m: [u8; 128]) -> [u8; 128]
+    ensures { λ r. ⌜ r ≡ digests 4 m ⌝ }
+{
+    let w = schedule4(&m);
+    let t = rounds4(&K, &w);
+    collect(&t)
 }

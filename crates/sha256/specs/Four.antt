@@ -1,0 +1,72 @@
+-- Four messages of 32 bytes, one after the other, and their digests; and how they stand side by side: word w of lane l at 4w + l.
+-- Assumes nothing.
+use Prim.Native.Nat.{ℕ, zero, suc, _+_, _*_, _/_, _%_}
+use mathlib.Core.List.{List, [], _∷_, _++_}
+use lib.ListN.{getD}
+use Rattle.words.specs.Bytes.{part}
+use Rattle.words.specs.Lanes.{lane}
+use Rattle.sha256.specs.declared.Work.{Work}
+use Rattle.sha256.specs.Sha.{tabulate, padded, initial, scheduled, roundAt, rounds, added, workBytes, digestOf}
+
+-- message l of those in m
+abbrev pub message : ℕ → List ℕ → List ℕ
+message l m = part (32 * l) 32 m
+
+-- the digests of the first n messages, one after the other
+unfoldable pub digests : ℕ → List ℕ → List ℕ
+digests zero m = []
+digests (suc n) m = digests n m ++ digestOf (message n m)
+
+-- words 8 to 15 of the block of a message of 32 bytes: its padding
+unfoldable pub padWords : List ℕ
+padWords = 0x80000000 ∷ 0 ∷ 0 ∷ 0 ∷ 0 ∷ 0 ∷ 0 ∷ 256 ∷ []
+
+-- four lists of n words side by side
+unfoldable pub laned : ℕ → (ℕ → List ℕ) → List ℕ
+laned n f = tabulate (4 * n) (λ j. getD (f (j % 4)) (j / 4) 0)
+
+-- eight words as a list, and back
+abbrev pub wordsOf : Work → List ℕ
+wordsOf s = s .a ∷ s .b ∷ s .c ∷ s .d ∷ s .e ∷ s .f ∷ s .g ∷ s .h ∷ []
+
+abbrev pub workOf : List ℕ → Work
+workOf s =
+    record {
+      a = getD s 0 0;
+      b = getD s 1 0;
+      c = getD s 2 0;
+      d = getD s 3 0;
+      e = getD s 4 0;
+      f = getD s 5 0;
+      g = getD s 6 0;
+      h = getD s 7 0;
+    }
+
+-- the schedules of the four messages, of one block each
+unfoldable pub schedules : List ℕ → List ℕ
+schedules m = laned 64 (λ l. scheduled 48 (padded (message l m)))
+
+-- the schedule in lane l
+unfoldable pub scheduleIn : ℕ → List ℕ → List ℕ
+scheduleIn l w = lane l 64 w
+
+-- rounds i to i + 3 of a schedule
+unfoldable pub fourRounds : ℕ → List ℕ → Work → Work
+fourRounds i w s = roundAt (i + 3) w (roundAt (i + 2) w (roundAt (i + 1) w (roundAt i w s)))
+
+-- rounds i to i + 3 in each lane of t
+unfoldable pub fourInLanes : ℕ → List ℕ → List ℕ → List ℕ
+fourInLanes i w t = laned 8 (λ l. wordsOf (fourRounds i (scheduleIn l w) (workOf (lane l 8 t))))
+
+-- the working variables after n rounds in each lane
+unfoldable pub roundsInLanes : ℕ → List ℕ → List ℕ
+roundsInLanes n w = laned 8 (λ l. wordsOf (rounds n (scheduleIn l w) initial))
+
+-- the digest that lane l ends with, from its working variables after the rounds
+unfoldable pub digestIn : ℕ → List ℕ → List ℕ
+digestIn l t = workBytes (added (workOf (lane l 8 t)) initial)
+
+-- those of the first n lanes, one after the other
+unfoldable pub digestsIn : ℕ → List ℕ → List ℕ
+digestsIn zero t = []
+digestsIn (suc n) t = digestsIn n t ++ digestIn n t
