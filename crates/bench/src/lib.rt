@@ -1,5 +1,11 @@
 // The primitives under names that C can call, for bench/.
 ghost use mathlib.Core.Path.{_≡_};
+ghost use Rattle.sha256.specs.Sha.{digestOf};
+ghost use Rattle.sha256.specs.Four.{digests};
+ghost use Rattle.gf64.specs.Field.{foldBytes};
+ghost use Rattle.gf64.specs.Table.{tableOf};
+ghost use Rattle.bench.specs.Folds.{foldsWhere};
+ghost use Prim.Native.Nat.{ℕ};
 ghost use Rattle.chacha20.specs.ChaCha.{blockOf, blockWords};
 ghost use Rattle.chacha20.specs.Lanes.{EachLane, keyIn};
 
@@ -25,4 +31,46 @@ pub extern "C" fn bench_chacha20_four(
     ensures { λ _. ⌜ EachLane (λ l. blockWords (keyIn l (now (keys .entry))) counter (now (nonce .entry))) (now (out .exit)) ⌝ }
 {
     *out = chacha20::four::block(keys, counter, nonce);
+}
+
+#[no_mangle]
+pub extern "C" fn bench_sha256_one(m: &[u8], out: &mut [u8; 32])
+    ensures { λ _. ⌜ now (out .exit) ≡ digestOf (now (m .entry)) ⌝ }
+{
+    *out = sha256::digest(m);
+}
+
+#[no_mangle]
+pub extern "C" fn bench_sha256_four(m: &[u8; 128], out: &mut [u8; 128])
+    ensures { λ _. ⌜ now (out .exit) ≡ digests 4 (now (m .entry)) ⌝ }
+{
+    *out = sha256::digest4(*m);
+}
+
+#[no_mangle]
+pub extern "C" fn bench_fold(key: u64, s: &[u8]) -> u64
+    ensures { λ r. ⌜ r ≡ foldBytes key (now (s .entry)) ⌝ }
+{
+    gf64::fold(key, s)
+}
+
+#[no_mangle]
+pub extern "C" fn bench_fold_table(key: u64, table: &mut [u32; 512])
+    ensures { λ _. ⌜ now (table .exit) ≡ tableOf key ⌝ }
+{
+    *table = gf64::table(key);
+}
+
+// The folds of four columns, or of none where the lengths do not fit.
+#[no_mangle]
+pub extern "C" fn bench_fold_four(table: &[u32; 512], s: &[u8], len: usize, out: &mut [u64; 4])
+    ensures { λ _. ⌜ ((g : ℕ) → now (table .entry) ≡ tableOf g → now (out .exit) ≡ foldsWhere g len (now (s .entry)) (now (out .entry))) ⌝ }
+{
+    if len != s.len() / 4 {
+        return;
+    }
+    if s.len() % 4 != 0 {
+        return;
+    }
+    *out = gf64::fold_four(table, s, len);
 }

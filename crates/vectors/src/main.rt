@@ -81,6 +81,35 @@ fn four_blocks(p: &[u8]) {
     print(&out);
 }
 
+// Four messages of 32 bytes: their digests.
+fn four_digests(p: &[u8]) {
+    if p.len() != 128 {
+        return;
+    }
+    let mut m = [0u8; 128];
+    words::copy_part(&mut m, 0, p);
+    print(&sha256::digest4(m));
+}
+
+// A key and four columns: their folds.
+fn four_folds(p: &[u8]) {
+    let n = p.len();
+    if n < 8 {
+        return;
+    }
+    if n % 4 != 0 {
+        return;
+    }
+    let t = gf64::table(words::load64(p, 0));
+    let folds = gf64::fold_four(&t, &p[8..], (n - 8) / 4);
+    let mut out = [0u8; 32];
+    words::store64(&mut out, 0, folds[0]);
+    words::store64(&mut out, 8, folds[1]);
+    words::store64(&mut out, 16, folds[2]);
+    words::store64(&mut out, 24, folds[3]);
+    print(&out);
+}
+
 // A use number and a batch number: the nonce.
 fn nonce(p: &[u8]) {
     if p.len() != 8 {
@@ -104,6 +133,8 @@ fn case(kind: u8, p: &[u8]) {
         3 => repeated(p),
         4 => line(p),
         5 => four_blocks(p),
+        6 => four_digests(p),
+        7 => four_folds(p),
         8 => nonce(p),
         _ => {}
     }

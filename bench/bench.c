@@ -1,0 +1,135 @@
+/* Times the proved functions beside plain C, in one run: each row's two sides in turn, the least of many passes. Outputs are
+   compared first. */
+#include "plain.h"
+#include <stdio.h>
+#include <stdlib.h>
+#include <string.h>
+#include <time.h>
+
+/* crates/bench; a slice is a pointer and a length */
+void bench_chacha20_one(const uint8_t key[32], uint32_t counter, const uint8_t nonce[12], uint8_t out[64]);
+void bench_chacha20_four(const uint32_t keys[32], uint32_t counter, const uint8_t nonce[12], uint32_t out[64]);
+void bench_sha256_one(const uint8_t *m, size_t len, uint8_t out[32]);
+void bench_sha256_four(const uint8_t m[128], uint8_t out[128]);
+uint64_t bench_fold(uint64_t key, const uint8_t *s, size_t len);
+void bench_fold_table(uint64_t key, uint32_t table[512]);
+void bench_fold_four(const uint32_t table[512], const uint8_t *s, size_t s_len, size_t len, uint64_t out[4]);
+
+enum { PASSES = 200, COLUMNS = 128, LENGTH = 128 };
+
+static uint8_t key[4][32], nonce[12], message[1024], table_bytes[COLUMNS * LENGTH];
+static uint32_t lanes[32];
+static volatile uint64_t sink;
+
+static uint64_t random64(void) {
+    static uint64_t x = 88172645463325252u;
+    x ^= x << 13; x ^= x >> 7; x ^= x << 17;
+    return x;
+}
+
+static void fill(void *p, size_t n) {
+    for (size_t i = 0; i < n; i++) ((uint8_t *)p)[i] = (uint8_t)random64();
+}
+
+static double now(void) {
+    struct timespec t;
+    clock_gettime(CLOCK_MONOTONIC, &t);
+    return t.tv_sec * 1e9 + t.tv_nsec;
+}
+
+/* Each work function does its work once, on inputs that depend on i. */
+
+static void block_plain(unsigned i) { uint8_t out[64]; plain_chacha20_block(key[0], i, nonce, out); sink ^= out[0]; }
+static void block_one(unsigned i) { uint8_t out[64]; bench_chacha20_one(key[0], i, nonce, out); sink ^= out[0]; }
+static void block_four(unsigned i) { uint32_t out[64]; bench_chacha20_four(lanes, i, nonce, out); sink ^= out[0]; }
+
+static void sha_plain(unsigned i) { uint8_t out[32]; message[0] = (uint8_t)i; plain_sha256(message, 32, out); sink ^= out[0]; }
+static void sha_one(unsigned i) { uint8_t out[32]; message[0] = (uint8_t)i; bench_sha256_one(message, 32, out); sink ^= out[0]; }
+static void sha_four(unsigned i) { uint8_t out[128]; message[0] = (uint8_t)i; bench_sha256_four(message, out); sink ^= out[0]; }
+static void long_plain(unsigned i) { uint8_t out[32]; message[0] = (uint8_t)i; plain_sha256(message, 1015, out); sink ^= out[0]; }
+static void long_one(unsigned i) { uint8_t out[32]; message[0] = (uint8_t)i; bench_sha256_one(message, 1015, out); sink ^= out[0]; }
+
+static void fold_plain(unsigned i) {
+    for (int c = 0; c < COLUMNS; c++) sink ^= plain_fold(i + 7, table_bytes + c * LENGTH, LENGTH);
+}
+static void fold_one(unsigned i) {
+    for (int c = 0; c < COLUMNS; c++) sink ^= bench_fold(i + 7, table_bytes + c * LENGTH, LENGTH);
+}
+static void fold_four(unsigned i) {
+    uint32_t t[512];
+    uint64_t out[4];
+    bench_fold_table(i + 7, t);
+    for (int c = 0; c < COLUMNS; c += 4) {
+        bench_fold_four(t, table_bytes + c * LENGTH, 4 * LENGTH, LENGTH, out);
+        sink ^= out[0] ^ out[1] ^ out[2] ^ out[3];
+    }
+}
+
+struct row { const char *name; void (*plain)(unsigned); double plain_units; void (*proved)(unsigned); double units, goal; unsigned turns; };
+
+static const struct row rows[] = {
+    {"ChaCha20 block", block_plain, 1, block_one, 1, 1.0, 400},
+    {"ChaCha20 block, four at once", block_plain, 1, block_four, 4, 0.5, 400},
+    {"SHA-256 of 32 bytes", sha_plain, 1, sha_one, 1, 1.0, 200},
+    {"SHA-256 of 32 bytes, four at once", sha_plain, 1, sha_four, 4, 0.45, 200},
+    {"SHA-256 block of a long message", long_plain, 16, long_one, 16, 1.0, 40},
+    {"folded word, one column", fold_plain, COLUMNS * LENGTH / 8, fold_one, COLUMNS * LENGTH / 8, 1.0, 1},
+    {"folded word, four columns at once", fold_plain, COLUMNS * LENGTH / 8, fold_four, COLUMNS * LENGTH / 8, 0.35, 1},
+};
+
+static double least(double best, void (*work)(unsigned), unsigned turns, double units) {
+    double from = now();
+    for (unsigned i = 0; i < turns; i++) work(i);
+    double each = (now() - from) / turns / units;
+    return each < best ? each : best;
+}
+
+static void expect(int same, const char *what) {
+    if (!same) { printf("%s: outputs differ\n", what); exit(1); }
+}
+
+static void compare(void) {
+    uint8_t a[128], b[128], blocks[4][64];
+    uint32_t t[512], four[64];
+    uint64_t folds[4];
+    for (uint32_t n = 0; n < 200; n++) {
+        fill(key, sizeof key); fill(nonce, sizeof nonce); fill(message, sizeof message);
+        for (int l = 0; l < 4; l++) {
+            plain_chacha20_block(key[l], n, nonce, blocks[l]);
+            for (int w = 0; w < 8; w++) memcpy(&lanes[4 * w + l], key[l] + 4 * w, 4);
+        }
+        bench_chacha20_one(key[0], n, nonce, a);
+        expect(!memcmp(a, blocks[0], 64), "ChaCha20 block");
+        bench_chacha20_four(lanes, n, nonce, four);
+        for (int l = 0; l < 4; l++)
+            for (int w = 0; w < 16; w++) expect(!memcmp(&four[4 * w + l], blocks[l] + 4 * w, 4), "four ChaCha20 blocks");
+        plain_sha256(message, n, a); bench_sha256_one(message, n, b);
+        expect(!memcmp(a, b, 32), "SHA-256");
+        bench_sha256_four(message, b);
+        for (int l = 0; l < 4; l++) { plain_sha256(message + 32 * l, 32, a); expect(!memcmp(a, b + 32 * l, 32), "four SHA-256"); }
+        uint64_t g = random64();
+        size_t len = 8 * (n % 17);
+        bench_fold_table(g, t);
+        bench_fold_four(t, message, 4 * len, len, folds);
+        for (int c = 0; c < 4; c++) {
+            uint64_t f = plain_fold(g, message + c * len, len);
+            expect(f == folds[c] && f == bench_fold(g, message + c * len, len), "fold");
+        }
+    }
+}
+
+int main(void) {
+    compare();
+    fill(table_bytes, sizeof table_bytes);
+    printf("| Work | plain C, ns | proved, ns | ratio | goal |\n|---|---|---|---|---|\n");
+    for (size_t r = 0; r < sizeof rows / sizeof *rows; r++) {
+        const struct row *w = &rows[r];
+        double plain = 1e18, proved = 1e18;
+        for (int pass = 0; pass < PASSES; pass++) {
+            plain = least(plain, w->plain, w->turns, w->plain_units);
+            proved = least(proved, w->proved, w->turns, w->units);
+        }
+        printf("| %s | %.1f | %.1f | %.2f | %.2f |\n", w->name, plain, proved, proved / plain, w->goal);
+    }
+    return 0;
+}
