@@ -1,0 +1,64 @@
+/* No branch and no address may depend on a secret. Contracts can't say this and a mask in the source is not enough, so the compiled
+   functions run under memcheck with every secret range marked undefined: a jump or an address that depends on one is reported. */
+#include <stddef.h>
+#include <stdint.h>
+#include <stdio.h>
+#include <string.h>
+#include <valgrind/memcheck.h>
+
+void bench_chacha20_one(const uint8_t key[32], uint32_t counter, const uint8_t nonce[12], uint8_t out[64]);
+void bench_chacha20_four(const uint32_t keys[32], uint32_t counter, const uint8_t nonce[12], uint32_t out[64]);
+void bench_sha256_one(const uint8_t *m, size_t len, uint8_t out[32]);
+void bench_sha256_four(const uint8_t m[128], uint8_t out[128]);
+uint64_t bench_fold(uint64_t key, const uint8_t *s, size_t len);
+void bench_fold_table(uint64_t key, uint32_t table[512]);
+void bench_fold_four(const uint32_t table[512], const uint8_t *s, size_t s_len, size_t len, uint64_t out[4]);
+
+static uint8_t secret[1024], nonce[12];
+static uint32_t table[512];
+static int failed;
+
+/* The work reported nothing, and what it wrote still depends on the secret, so the marking was not lost on the way. */
+static void expect_silent(const char *name, unsigned before, const void *out, size_t n) {
+    if (VALGRIND_COUNT_ERRORS != before) {
+        printf("%s: steered by a secret\n", name);
+        failed = 1;
+    }
+    if (VALGRIND_CHECK_MEM_IS_DEFINED(out, n) == 0) {
+        printf("%s: the secret does not reach the output\n", name);
+        failed = 1;
+    }
+}
+
+#define RUN(name, work, out) \
+    do { \
+        memset(out, 0, sizeof out); \
+        unsigned before = VALGRIND_COUNT_ERRORS; \
+        work; \
+        expect_silent(name, before, out, sizeof out); \
+    } while (0)
+
+int main(int argc, char **argv) {
+    uint8_t bytes[128];
+    uint32_t words[64], keys[32];
+    uint64_t folds[4], fold[1];
+    if (!RUNNING_ON_VALGRIND) return 2;
+    for (size_t i = 0; i < sizeof secret; i++) secret[i] = (uint8_t)(i * 167 + 13);
+    memcpy(keys, secret, sizeof keys);
+    bench_fold_table(0x0123456789abcdef, table);
+    VALGRIND_MAKE_MEM_UNDEFINED(secret, sizeof secret);
+    VALGRIND_MAKE_MEM_UNDEFINED(keys, sizeof keys);
+    if (argc > 1 && !strcmp(argv[1], "leak")) {
+        /* a planted leak, to see that the test can fail */
+        unsigned before = VALGRIND_COUNT_ERRORS;
+        if (bench_fold(3, secret, 16) & 1) nonce[0] = 1;
+        return VALGRIND_COUNT_ERRORS == before ? 0 : 9;
+    }
+    RUN("chacha20::one::block", bench_chacha20_one(secret, 1, nonce, bytes), bytes);
+    RUN("chacha20::four::block", bench_chacha20_four(keys, 1, nonce, words), words);
+    RUN("sha256::digest", bench_sha256_one(secret, 200, bytes), bytes);
+    RUN("sha256::digest4", bench_sha256_four(secret, bytes), bytes);
+    RUN("gf64::fold", fold[0] = bench_fold(0x0123456789abcdef, secret, 128), fold);
+    RUN("gf64::fold_four", bench_fold_four(table, secret, 512, 128, folds), folds);
+    return failed ? 9 : 0;
+}
