@@ -5,10 +5,11 @@ use mathlib.Core.List.{List, [], _∷_, _++_, append-assoc}
 use Prim.Native.Nat.{ℕ, zero, suc, _+_, _-_, _/_, _%_, _<_, _≤_}
 use native.Mathlib.Omega.{arith}
 use lib.Dec.{leb, eqb}
-use lib.ListN.{length, drop, set, length-append, length-set}
+use lib.ListN.{length, drop, set, take, length-take, length-append, length-set}
 use lib.Seq.{drop-cons, drop-set-lt, getD-set-same}
 use borrow.Author.Tests.{leb-true}
-use Rattle.foldtext.specs.Line.{isInput, hexDigit, hexDigits, foldLine, refusedLine, lineOf}
+use Rattle.foldtext.specs.Line.{isInput, hexDigit, hexDigits, foldLine, refusedLine, lineOf, Holds}
+use Rattle.foldtext.specs.declared.Text.{Text}
 use Rattle.words.specs.Bytes.{word64}
 use Rattle.gf64.specs.Field.{foldBytes}
 
@@ -49,3 +50,11 @@ line-input s e = ap (λ (b : Bool). cond b (foldLine (foldBytes (word64 s 0) (dr
 pub line-other : (s : List ℕ) → isInput (length s) ≡ false → lineOf s ≡ refusedLine
 unfolding lineOf
 line-other s e = ap (λ (b : Bool). cond b (foldLine (foldBytes (word64 s 0) (drop 8 s))) refusedLine) e
+
+-- ---- a text holds as many bytes as it says
+
+pub holds-counted : (r : Text) (l : List ℕ) → Holds r l → r .len ≡ length (take (r .len) (r .bytes))
+holds-counted r l h = h .long ∙ sym (ap length (h .bytes))
+
+pub holds-within : (r : Text) (l : List ℕ) → Holds r l → r .len ≤ length (r .bytes)
+holds-within r l h = omega (arith, holds-counted r l h, length-take (r .len) (r .bytes))

@@ -1,3 +1,4 @@
+use Rattle.foldtext.proofs.Laws.{holds-within, holds-counted}
 use lib.ListN.{length, length-take}
 use native.Mathlib.Omega.{arith}
 use mathlib.Core.Path.{sym, ap, _∙_}
@@ -21,12 +22,10 @@ line-requires : tie.Need-line-requires
 line-requires c κs = search needs
 
 array-share-prefix-bytes : tie.Need-array-share-prefix-bytes
-array-share-prefix-bytes c =
-    let r = c .before .line in
-    omega (arith, r .ensures .long, ap length (r .ensures .bytes), length-take (r .result .len) (r .result .bytes))
+array-share-prefix-bytes c = holds-within _ _ (c .before .line .ensures)
 
 slice-aggregate-write-all : tie.Need-slice-aggregate-write-all
-slice-aggregate-write-all c = let r = c .before .before .line in r .ensures .long ∙ sym (ap length (r .ensures .bytes))
+slice-aggregate-write-all c = holds-counted _ _ (c .before .before .line .ensures)
 
 write-all-requires : tie.Need-write-all-requires
 write-all-requires c κs = search needs

@@ -1,4 +1,4 @@
-use Rattle.chacha20.proofs.Laws.{cons}
+use Rattle.chacha20.proofs.Laws.{started}
 use Rattle.chacha20.specs.ChaCha.{startOf}
 use mathlib.Core.Path.{refl}
 use borrow.Author.Needs.{needs}
@@ -39,24 +39,19 @@ nonce-word-requires-3 : tie.Need-nonce-word-requires-3
 nonce-word-requires-3 c κs = search needs
 
 returns : tie.Need-returns
-unfolding startOf
 returns c =
-    cons refl
-    (cons refl
-    (cons refl
-    (cons refl
-    (cons (c .before .before .before .before .before .before .before .before .before .before .key-word .ensures)
-    (cons (c .before .before .before .before .before .before .before .before .before .key-word2 .ensures)
-    (cons (c .before .before .before .before .before .before .before .before .key-word3 .ensures)
-    (cons (c .before .before .before .before .before .before .before .key-word4 .ensures)
-    (cons (c .before .before .before .before .before .before .key-word5 .ensures)
-    (cons (c .before .before .before .before .before .key-word6 .ensures)
-    (cons (c .before .before .before .before .key-word7 .ensures)
-    (cons (c .before .before .before .key-word8 .ensures)
-    (cons refl
-    (cons (c .before .before .nonce-word .ensures)
-    (cons (c .before .nonce-word2 .ensures)
-    (cons (c .nonce-word3 .ensures) refl)))))))))))))))
+    started _ _ _
+    (c .before .before .before .before .before .before .before .before .before .before .key-word .ensures)
+    (c .before .before .before .before .before .before .before .before .before .key-word2 .ensures)
+    (c .before .before .before .before .before .before .before .before .key-word3 .ensures)
+    (c .before .before .before .before .before .before .before .key-word4 .ensures)
+    (c .before .before .before .before .before .before .key-word5 .ensures)
+    (c .before .before .before .before .before .key-word6 .ensures)
+    (c .before .before .before .before .key-word7 .ensures)
+    (c .before .before .before .key-word8 .ensures)
+    (c .before .before .nonce-word .ensures)
+    (c .before .nonce-word2 .ensures)
+    (c .nonce-word3 .ensures)
 
 pub start-spec : {M : Type 1} → statement M
 start-spec =
