@@ -1,17 +1,18 @@
 -- Laws of lists with something added to each element, or laid over a part. Assumes nothing.
 use mathlib.Core.Path.{_≡_, refl, sym, ap, ap₂, _∙_}
 use mathlib.Core.List.{List, [], _∷_, _++_}
-use Prim.Native.Nat.{ℕ, zero, suc, _+_, _-_, _*_, _≤_, _<_}
-use native.Mathlib.Nat.{le-of-suc-le-suc, not-suc-le-zero, zero-mul, one-mul}
+use Prim.Native.Nat.{ℕ, zero, suc, _+_, _-_, _*_, _/_, _%_, _≤_, _<_}
+use native.Mathlib.Nat.{le-of-suc-le-suc, not-suc-le-zero, zero-add, suc-add, zero-mul, one-mul}
 use native.Mathlib.Omega.{arith}
 use native.Mathlib.Decide.{decLt, ℕ-discrete}
 use lib.Bits.{bitXor, xor-lt, xor-zero-r, xor-comm, xor-self}
-use lib.ListN.{length, getD, set, take, drop, replicate, length-set, length-append, length-drop, List·getD-append, List·getD-eq-default}
+use lib.ListN.{length, getD, set, take, drop, replicate, length-set, length-append, length-drop, length-take, List·getD-append, List·getD-eq-default}
 use lib.Seq.{ext-getD, getD-set-same, getD-set-other, getD-take, getD-drop, getD-append-add, length-take-le}
 use borrow.Rule.Slice.PartMut.{putMid, post-is}
-use Rattle.words.specs.Bytes.{Bytes, put}
+use Rattle.words.specs.Bytes.{Bytes, part, put}
+use Rattle.words.specs.Bits.{bitOf, bitAt}
 use Rattle.words.specs.Xor.{xorEach, xorPart, xorList, scale}
-use Rattle.words.proofs.Xor.{xor-assoc, scale-xor, scale-lt}
+use Rattle.words.proofs.Xor.{bit-xor, xor-assoc, scale-xor, scale-lt}
 
 -- ---- a list with f i added to its element i
 
@@ -78,6 +79,37 @@ xorList-comm l m e =
 
 pub xorList-bytes : (l m : List ℕ) → length l ≡ length m → Bytes l → Bytes m → Bytes (xorList l m)
 xorList-bytes l m e hl hm i = rw (xorList-at l m e i) (xor-lt 8 (getD l i 0) (getD m i 0) (hl i) (hm i))
+
+-- ---- parts of a sum
+
+pub xorEach-take : (n : ℕ) (l : List ℕ) (f : ℕ → ℕ) → take n (xorEach l f) ≡ xorEach (take n l) f
+unfolding xorEach
+xorEach-take zero l f = refl
+xorEach-take (suc n) [] f = refl
+xorEach-take (suc n) (x ∷ l) f = ap (λ (r : List ℕ). bitXor x (f 0) ∷ r) (xorEach-take n l (λ i. f (suc i)))
+
+pub xorEach-drop : (n : ℕ) (l : List ℕ) (f : ℕ → ℕ) → drop n (xorEach l f) ≡ xorEach (drop n l) (λ i. f (n + i))
+unfolding xorEach
+xorEach-drop zero l f = xorEach-cong l f (λ i. f (0 + i)) (λ i h. ap f (sym (zero-add i)))
+xorEach-drop (suc n) [] f = refl
+xorEach-drop (suc n) (x ∷ l) f =
+    xorEach-drop n l (λ i. f (suc i))
+    ∙ xorEach-cong (drop n l) (λ i. f (suc (n + i))) (λ i. f (suc n + i)) (λ i h. ap f (sym (suc-add n i)))
+
+-- a part of a sum is the sum of the parts
+pub xorList-part : (a n : ℕ) (l m : List ℕ) → part a n (xorList l m) ≡ xorList (part a n l) (part a n m)
+xorList-part a n l m =
+    ap (take n) (xorEach-drop a l (λ i. getD m i 0))
+    ∙ xorEach-take n (drop a l) (λ i. getD m (a + i) 0)
+    ∙ xorEach-cong (part a n l) (λ i. getD m (a + i) 0) (λ i. getD (part a n m) i 0)
+    (λ i h.
+    let short : i < n = omega (arith, length-take n (drop a l)) in
+    sym (getD-take n (drop a m) i 0 short ∙ getD-drop a m i 0))
+
+-- the bits of a sum are the sums of the bits
+pub bitAt-xor : (l m : List ℕ) → length l ≡ length m → (c : ℕ) → bitAt (xorList l m) c ≡ bitXor (bitAt l c) (bitAt m c)
+bitAt-xor l m e c =
+    ap (λ (x : ℕ). bitOf x (c % 8)) (xorList-at l m e (c / 8)) ∙ bit-xor (getD l (c / 8) 0) (getD m (c / 8) 0) (c % 8)
 
 -- ---- a bit times a list
 
