@@ -12,7 +12,7 @@ use Rattle.sha256.specs.Rest.{restOf, restLength}
 
 -- ---- the hash value over blocks
 
-part-front : (a n : ℕ) (s x : List ℕ) → a + n ≤ length s → part a n (s ++ x) ≡ part a n s
+pub part-front : (a n : ℕ) (s x : List ℕ) → a + n ≤ length s → part a n (s ++ x) ≡ part a n s
 part-front a n s x h =
     ap (take n) (drop-append-le a s x (omega arith)) ∙ take-append-le n (drop a s) x (omega (arith, length-drop a s))
 

@@ -2,19 +2,18 @@
 use mathlib.Core.Path.{_≡_, refl, sym, ap, ap₂, _∙_}
 use mathlib.Core.List.{List, _++_}
 use Prim.Native.Nat.{ℕ, zero, suc, _+_, _-_, _*_, _/_, _%_, _<_, _≤_}
-use native.Mathlib.Numerals.{add-one}
 use native.Mathlib.Omega.{arith}
 use lib.ListN.{length, getD, drop, length-append, length-drop, List·getD-append}
 use lib.Seq.{ext-getD, getD-take, getD-drop, getD-append-add, length-take-le, take-all}
-use Rattle.words.specs.Bytes.{put}
 use Rattle.words.specs.Lanes.{lane}
 use Rattle.words.proofs.Lanes.{lane-at, lane-length}
 use Rattle.sha256.specs.declared.Work.{Work}
-use Rattle.sha256.specs.Sha.{wordAt, zeros, padding, constants, padded, initial, nextWord, scheduled, stepped, roundAt, rounds, added, compressed, hashed, workBytes, digestOf}
-use Rattle.sha256.specs.Four.{message, digests, padWords, laned, wordsOf, workOf, schedules, scheduleIn, fourRounds, fourInLanes, roundsInLanes, digestIn, digestsIn}
+use Rattle.sha256.specs.Sha.{wordAt, padding, constants, padded, initial, nextWord, scheduled, stepped, roundAt, rounds, added, compressed, hashed, workBytes, digestOf}
+use Rattle.sha256.specs.Four.{message, joined, digests, padWords, laned, wordsOf, workOf, schedules, scheduleIn, fourRounds, fourInLanes, roundsInLanes, digestIn}
 use Rattle.sha256.proofs.Progress.{Begun}
 use Rattle.sha256.proofs.Words.{tabulate-length, tabulate-at, next-cong, word-first, word-next, scheduled-length}
-use Rattle.sha256.proofs.Blocks.{padding-length, put-next, drop-zeros}
+use Rattle.sha256.proofs.Blocks.{padding-length}
+use Rattle.sha256.proofs.Digests.{joined-cong}
 
 -- ---- lists side by side
 
@@ -120,43 +119,33 @@ module _ (m : List ℕ) where
   unfolding schedules
   schedules-length = laned-length 64 (λ l. scheduled 48 (padded (message l m)))
 
-  -- k words after a place in its lane
-  schedules-at : (at k : ℕ) → at + 4 * k < 256
-      → getD (schedules m) (at + 4 * k) 0 ≡ getD (scheduled 48 (padded (message (at % 4) m))) (at / 4 + k) 0
+  schedules-at : (at : ℕ) → at < 256 → getD (schedules m) at 0 ≡ getD (scheduled 48 (padded (message (at % 4) m))) (at / 4) 0
   unfolding schedules
-  schedules-at at k h =
+  schedules-at = laned-at 64 (λ l. scheduled 48 (padded (message l m)))
+
+  -- k words after a place, in its lane
+  schedules-after : (at k : ℕ) → at + 4 * k < 256
+      → getD (schedules m) (at + 4 * k) 0 ≡ getD (scheduled 48 (padded (message (at % 4) m))) (at / 4 + k) 0
+  schedules-after at k h =
       let here : (at + 4 * k) % 4 ≡ at % 4 = omega arith in
       let place : (at + 4 * k) / 4 ≡ at / 4 + k = omega arith in
-      laned-at 64 (λ l. scheduled 48 (padded (message l m))) (at + 4 * k) h
+      schedules-at (at + 4 * k) h
       ∙ ap₂ (λ (l t : ℕ). getD (scheduled 48 (padded (message l m))) t 0) here place
 
   block-at : (at : ℕ) → at < 64 → getD (schedules m) at 0 ≡ wordAt (padded (message (at % 4) m)) (4 * (at / 4))
-  block-at at h =
-      let same : at ≡ at + 4 * 0 = omega arith in
-      let place : at / 4 + 0 ≡ at / 4 = omega arith in
-      ap (λ (j : ℕ). getD (schedules m) j 0) same
-      ∙ schedules-at at 0 (omega arith)
-      ∙ ap (λ (t : ℕ). getD (scheduled 48 (padded (message (at % 4) m))) t 0) place
-      ∙ word-first (padded (message (at % 4) m)) (at / 4) (omega arith)
+  block-at at h = schedules-at at (omega arith) ∙ word-first (padded (message (at % 4) m)) (at / 4) (omega arith)
 
   -- the next word, from schedules in progress
   pub next-at : (w : List ℕ) (at : ℕ) → at < 192 → Begun (at + 64) (schedules m) w
       → nextWord (getD w (at + 56) 0) (getD w (at + 36) 0) (getD w (at + 4) 0) (getD w at 0) ≡ getD (schedules m) (at + 64) 0
   next-at w at h g =
-      next-cong (from 14 (omega arith)) (from 9 (omega arith)) (from 1 (omega arith)) here
+      next-cong (from 14 (omega arith)) (from 9 (omega arith)) (from 1 (omega arith))
+      (g .done at (omega arith) ∙ schedules-at at (omega arith))
       ∙ sym (word-next (padded (message (at % 4) m)) (at / 4) (omega arith))
-      ∙ sym (schedules-at at 16 (omega arith))
+      ∙ sym (schedules-after at 16 (omega arith))
     where
       from : (k : ℕ) → k < 16 → getD w (at + 4 * k) 0 ≡ getD (scheduled 48 (padded (message (at % 4) m))) (at / 4 + k) 0
-      from k hk = g .done (at + 4 * k) (omega arith) ∙ schedules-at at k (omega arith)
-
-      here : getD w at 0 ≡ getD (scheduled 48 (padded (message (at % 4) m))) (at / 4) 0
-      here =
-          let same : at ≡ at + 4 * 0 = omega arith in
-          let place : at / 4 + 0 ≡ at / 4 = omega arith in
-          ap (λ (j : ℕ). getD w j 0) same
-          ∙ from 0 (omega arith)
-          ∙ ap (λ (t : ℕ). getD (scheduled 48 (padded (message (at % 4) m))) t 0) place
+      from k hk = g .done (at + 4 * k) (omega arith) ∙ schedules-after at k (omega arith)
 
 module _ (m : List ℕ) (e : length m ≡ 128) where
   pub message-length : (l : ℕ) → l < 4 → length (message l m) ≡ 32
@@ -236,30 +225,11 @@ lane-digest l m e h =
     (lane-rounds 64 l (schedules m) h ∙ ap (λ (w : List ℕ). rounds 64 w initial) (schedule-in l m h))
     ∙ sym (digest-block (message l m) (message-length m e l h))
 
-pub lane-digests : (n : ℕ) (m : List ℕ) → length m ≡ 128 → n ≤ 4 → digestsIn n (roundsInLanes 64 (schedules m)) ≡ digests n m
-unfolding digestsIn digests
-lane-digests zero m e h = refl
-lane-digests (suc n) m e h = ap₂ _++_ (lane-digests n m e (omega arith)) (lane-digest n m e h)
+pub lane-digests : (m : List ℕ) → length m ≡ 128 → joined 4 (λ l. digestIn l (roundsInLanes 64 (schedules m))) ≡ digests m
+unfolding digests
+lane-digests m e =
+    joined-cong 4 (λ l. digestIn l (roundsInLanes 64 (schedules m))) (λ l. digestOf (message l m)) (λ l h. lane-digest l m e h)
 
--- one more digest, laid after the others
-digestIn-length : (l : ℕ) (t : List ℕ) → length (digestIn l t) ≡ 32
+pub digestIn-length : (l : ℕ) (t : List ℕ) → length (digestIn l t) ≡ 32
 unfolding digestIn
 digestIn-length l t = refl
-
-digestsIn-length : (n : ℕ) (t : List ℕ) → length (digestsIn n t) ≡ 32 * n
-unfolding digestsIn
-digestsIn-length zero t = refl
-digestsIn-length (suc n) t =
-    length-append (digestsIn n t) (digestIn n t) ∙ omega (arith, digestsIn-length n t, digestIn-length n t)
-
-pub digests-more : (l : ℕ) (t x : List ℕ) → l < 4 → x ≡ digestIn l t
-    → put (digestsIn l t ++ zeros (128 - 32 * l)) (32 * l) x ≡ digestsIn (l + 1) t ++ zeros (128 - 32 * (l + 1))
-unfolding digestsIn
-digests-more l t x h e =
-    let left : 128 - 32 * l - 32 ≡ 128 - 32 * (l + 1) = omega arith in
-    ap (put (digestsIn l t ++ zeros (128 - 32 * l)) (32 * l)) e
-    ∙ put-next (digestsIn l t) (zeros (128 - 32 * l)) (digestIn l t) (32 * l) (digestsIn-length l t)
-    ∙ ap₂ _++_ (ap (λ (n : ℕ). digestsIn n t) (sym (add-one l)))
-    (ap (λ (n : ℕ). drop n (zeros (128 - 32 * l))) (digestIn-length l t)
-    ∙ drop-zeros 32 (128 - 32 * l) (omega arith)
-    ∙ ap zeros left)

@@ -1,4 +1,5 @@
 pub mod Progress
 pub mod Words
 pub mod Blocks
+pub mod Digests
 pub mod Lanes

@@ -12,10 +12,14 @@ use Rattle.sha256.specs.Sha.{tabulate, padded, initial, scheduled, round
 abbrev pub message : ℕ → List ℕ → List ℕ
 message l m = part (32 * l) 32 m
 
--- the digests of the first n messages, one after the other
-unfoldable pub digests : ℕ → List ℕ → List ℕ
-digests zero m = []
-digests (suc n) m = digests n m ++ digestOf (message n m)
+-- f 0, .., f (n - 1), one after the other
+unfoldable pub joined : ℕ → (ℕ → List ℕ) → List ℕ
+joined zero f = []
+joined (suc n) f = joined n f ++ f n
+
+-- the digests of the four messages
+unfoldable pub digests : List ℕ → List ℕ
+digests m = joined 4 (λ l. digestOf (message l m))
 
 -- words 8 to 15 of the block of a message of 32 bytes: its padding
 unfoldable pub padWords : List ℕ
@@ -65,8 +69,3 @@ roundsInLanes n w = laned 8 (λ l. wordsOf (rounds n (scheduleIn l w) initial))
 -- the digest that lane l ends with, from its working variables after the rounds
 unfoldable pub digestIn : ℕ → List ℕ → List ℕ
 digestIn l t = workBytes (added (workOf (lane l 8 t)) initial)
-
--- those of the first n lanes, one after the other
-unfoldable pub digestsIn : ℕ → List ℕ → List ℕ
-digestsIn zero t = []
-digestsIn (suc n) t = digestsIn n t ++ digestIn n t

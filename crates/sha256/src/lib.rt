@@ -1,10 +1,10 @@
-// SHA-256 of FIPS 180-4: the digest of a message of any length.
+// SHA-256 of FIPS 180-4: the digest of a message of any length, and of four messages of 32 bytes at once.
 ghost use mathlib.Core.Path.{_≡_};
 ghost use mathlib.Core.List.{_++_};
-ghost use Prim.Native.Nat.{_+_, _-_, _*_, _/_, _%_, _^_, _≤_, _<_};
+ghost use Prim.Native.Nat.{_+_, _-_, _/_, _≤_, _<_};
 ghost use lib.ListN.{length, getD, take};
 ghost use Rattle.words.specs.Lanes.{lane, putLane};
-ghost use Rattle.sha256.specs.Four.{digests, padWords, laned, wordsOf, workOf, schedules, scheduleIn, fourRounds, fourInLanes, roundsInLanes, digestIn, digestsIn};
+ghost use Rattle.sha256.specs.Four.{joined, digests, padWords, laned, wordsOf, workOf, schedules, scheduleIn, fourRounds, fourInLanes, roundsInLanes, digestIn};
 ghost use Rattle.sha256.specs.Rest.{restOf, restLength};
 ghost use Rattle.sha256.specs.Sha.{ch, maj, bigSigma0, bigSigma1, smallSigma0, smallSigma1, constants, wordAt, longBytes, zeros, initial, blockWords, nextWord, scheduled, temp1, temp2, stepped, rounds, added, compressed, hashed, workBytes, digestOf};
 
@@ -503,7 +503,7 @@ fn finish(t: &[u32; 32], l: usize) -> [u8; 32]
 }
 
 fn collect(t: &[u32; 32]) -> [u8; 128]
-    ensures { λ r. ⌜ r ≡ digestsIn 4 (now (t .entry)) ⌝ }
+    ensures { λ r. ⌜ r ≡ joined 4 (λ l. digestIn l (now (t .entry))) ⌝ }
 {
     let mut out = [0u8; 128];
     for l in 0..4usize {
@@ -514,7 +514,7 @@ fn collect(t: &[u32; 32]) -> [u8; 128]
 
 // The digests of four messages of 32 bytes: that of message l stands where the message stood.
 pub fn digest4(m: [u8; 128]) -> [u8; 128]
-    ensures { λ r. ⌜ r ≡ digests 4 m ⌝ }
+    ensures { λ r. ⌜ r ≡ digests m ⌝ }
 {
     let w = schedule4(&m);
     let t = rounds4(&K, &w);

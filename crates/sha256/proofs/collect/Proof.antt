@@ -6,19 +6,20 @@ use native.Mathlib.Omega.{arith}
 use lib.ListN.{length}
 use Rattle.words.specs.Bytes.{put}
 use Rattle.sha256.specs.Sha.{zeros}
-use Rattle.sha256.specs.Four.{digestsIn}
-use Rattle.sha256.proofs.Lanes.{digests-more}
+use Rattle.sha256.specs.Four.{joined, digestIn}
+use Rattle.sha256.proofs.Lanes.{digestIn-length}
+use Rattle.sha256.proofs.Digests.{joined-more}
 use Rattle.sha256.proofs.collect.Statement.{statement}
 use Rattle.sha256.proofs.collect.Tie as tie
 
 abbrev Inv-loop : tie.InvT-loop
-Inv-loop t out₀ l₀ out l = (l ≤ 4) × (length out ≡ 128) × (out ≡ digestsIn l t ++ zeros (128 - 32 * l))
+Inv-loop t out₀ l₀ out l = (l ≤ 4) × (length out ≡ 128) × (out ≡ joined l (λ m. digestIn m t) ++ zeros (128 - 32 * l))
 
 abbrev μ-loop : tie.MeasureT-loop
 μ-loop t out₀ l₀ out l = 4 - l
 
 loop-holds : tie.Need-loop-holds Inv-loop μ-loop
-unfolding digestsIn
+unfolding joined
 loop-holds c = (search needs, refl, refl)
 
 slice-aggregate-copy-part : tie.Need-slice-aggregate-copy-part Inv-loop μ-loop
@@ -51,7 +52,7 @@ loop-again c =
       c .before .copy-part .kept .0 ∙ v .inv .1,
       c .before .copy-part .ensures
           ∙ ap (λ (o : List ℕ). put o (32 * v .l) (f .result)) (v .inv .2)
-          ∙ digests-more (v .l) t (f .result) (omega arith) (f .ensures),
+          ∙ joined-more (λ l. digestIn l t) (λ l. digestIn-length l t) (v .l) (f .result) (omega arith) (f .ensures),
     )
 
 returns : tie.Need-returns Inv-loop μ-loop
@@ -59,7 +60,7 @@ returns c =
     let v = c .before .loop in
     let t = c .before .before .args .t .now in
     let e : v .l ≡ 4 = omega arith in
-    rw e at (v .inv .2) ∙ append-nil (digestsIn 4 t)
+    rw e at (v .inv .2) ∙ append-nil (joined 4 (λ l. digestIn l t))
 
 pub collect-spec : {M : Type 1} → statement M
 collect-spec =

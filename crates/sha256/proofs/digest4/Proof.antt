@@ -1,8 +1,9 @@
 use mathlib.Core.Path.{refl, ap, _∙_, _≡_}
-use native.Mathlib.Omega.{arith}
+use mathlib.Core.List.{List}
+use Prim.Native.Nat.{ℕ}
 use lib.ListN.{length}
 use Rattle.sha256.specs.Sha.{constants}
-use Rattle.sha256.specs.Four.{digestsIn, roundsInLanes}
+use Rattle.sha256.specs.Four.{joined, digestIn, roundsInLanes}
 use Rattle.sha256.proofs.Lanes.{lane-digests}
 use borrow.Author.Needs.{needs}
 use Rattle.sha256.proofs.digest4.Statement.{statement}
@@ -26,8 +27,8 @@ returns c =
     let m = c .before .before .before .before .before .before .before .args .t1 in
     let len : length m ≡ 128 = search needs in
     c .collect .ensures
-    ∙ ap (digestsIn 4) (c .before .before .rounds4 .ensures ∙ ap (roundsInLanes 64) (c .before .before .before .before .before .schedule4 .ensures))
-    ∙ lane-digests 4 m len (omega arith)
+    ∙ ap (λ (t : List ℕ). joined 4 (λ l. digestIn l t)) (c .before .before .rounds4 .ensures ∙ ap (roundsInLanes 64) (c .before .before .before .before .before .schedule4 .ensures))
+    ∙ lane-digests m len
 
 pub digest4-spec : {M : Type 1} → statement M
 digest4-spec =
