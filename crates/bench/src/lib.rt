@@ -42,7 +42,7 @@ pub extern "C" fn bench_sha256_one(m: &[u8], out: &mut [u8; 32])
 
 #[no_mangle]
 pub extern "C" fn bench_sha256_four(m: &[u8; 128], out: &mut [u8; 128])
-    ensures { λ _. ⌜ now (out .exit) ≡ digests 4 (now (m .entry)) ⌝ }
+    ensures { λ _. ⌜ now (out .exit) ≡ digests (now (m .entry)) ⌝ }
 {
     *out = sha256::digest4(*m);
 }
