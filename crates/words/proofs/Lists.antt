@@ -6,7 +6,7 @@ use native.Mathlib.Nat.{le-of-suc-le-suc, not-suc-le-zero, zero-add, suc-add, ze
 use native.Mathlib.Omega.{arith}
 use native.Mathlib.Decide.{decLt, ℕ-discrete}
 use lib.Bits.{bitXor, xor-lt, xor-zero-r, xor-comm, xor-self}
-use lib.ListN.{length, getD, set, take, drop, replicate, length-set, length-append, length-drop, length-take, List·getD-append, List·getD-eq-default}
+use lib.ListN.{length, getD, set, take, drop, replicate, length-replicate, getD-replicate, length-set, length-append, length-drop, length-take, List·getD-append, List·getD-eq-default}
 use lib.Seq.{ext-getD, getD-set-same, getD-set-other, getD-take, getD-drop, getD-append-add, length-take-le}
 use borrow.Rule.Slice.PartMut.{putMid, post-is}
 use Rattle.words.specs.Bytes.{Bytes, part, put}
@@ -79,6 +79,14 @@ xorList-comm l m e =
 
 pub xorList-bytes : (l m : List ℕ) → length l ≡ length m → Bytes l → Bytes m → Bytes (xorList l m)
 xorList-bytes l m e hl hm i = rw (xorList-at l m e i) (xor-lt 8 (getD l i 0) (getD m i 0) (hl i) (hm i))
+
+-- zeros are 0 everywhere, past their end too
+pub zeros-at : (n i : ℕ) → _≡_ {A = ℕ} (getD (replicate n 0) i 0) 0
+zeros-at n i = here (decLt i n)
+  where
+    here : Dec (i < n) → _≡_ {A = ℕ} (getD (replicate n 0) i 0) 0
+    here (yes h) = getD-replicate n i 0 0 h
+    here (no h) = List·getD-eq-default (replicate n 0) 0 (omega (arith, length-replicate {A = ℕ} n 0))
 
 -- ---- parts of a sum
 

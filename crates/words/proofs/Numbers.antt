@@ -1,14 +1,17 @@
 -- Little-endian numbers, both ways. Assumes nothing.
 use mathlib.Core.Path.{_≡_, refl, sym, ap, ap₂, _∙_}
 use mathlib.Core.List.{List, [], _∷_}
-use Prim.Native.Nat.{ℕ, zero, suc, _+_, _-_, _*_, _/_, _%_, _^_, _<_}
+use Prim.Native.Nat.{ℕ, zero, suc, _+_, _-_, _*_, _/_, _%_, _^_, _<_, _≤_}
 use native.Mathlib.Nat.{mod-one, mod-eq-of-lt, zero-lt-suc, pow-suc, not-suc-le-zero, le-of-suc-le-suc}
 use native.Mathlib.Decide.{decLt}
 use native.Mathlib.Omega.{arith}
 use lib.Arith.{mod-mul}
-use lib.ListN.{length, getD, List·getD-append}
-use Rattle.words.specs.Bytes.{Bytes, number, bytes, word32, word64, bytesOfWords, put}
-use Rattle.words.proofs.Lists.{put-before, put-in}
+use lib.ListN.{length, getD, drop, List·getD-append}
+use Rattle.words.specs.Bytes.{Bytes, number, bytes, word32, word64, bytesOfWords, part, put}
+use Rattle.words.proofs.Lists.{put-before, put-in, xorList-at}
+use Rattle.words.specs.Xor.{xorList}
+use lib.Bits.{bitXor, xor-block}
+use lib.Seq.{getD-take, getD-drop}
 
 pub bytes-length : (n x : ℕ) → length (bytes n x) ≡ n
 bytes-length zero x = refl
@@ -101,3 +104,40 @@ word64-halves s at =
 
 pub word32-lt : (s : List ℕ) (at : ℕ) → Bytes s → word32 s at < 2 ^ 32
 word32-lt s at h = omega (arith, h at, h (at + 1), h (at + 2), h (at + 3))
+
+pub word64-lt : (s : List ℕ) (at : ℕ) → Bytes s → word64 s at < 2 ^ 64
+word64-lt s at h =
+    omega (arith, h at, h (at + 1), h (at + 2), h (at + 3), h (at + 4), h (at + 5), h (at + 6), h (at + 7))
+
+-- ---- the 8-byte numbers of a sum and of a part
+
+-- one more byte at the low end
+byte-xor : (x y m n : ℕ) → x < 256 → y < 256 → bitXor x y + 256 * bitXor m n ≡ bitXor (x + 256 * m) (y + 256 * n)
+byte-xor x y m n hx hy =
+    turn (bitXor x y) (bitXor m n) ∙ sym (xor-block 8 m n x y hx hy) ∙ sym (ap₂ bitXor (turn x m) (turn y n))
+  where
+    turn : (p q : ℕ) → p + 256 * q ≡ q * 256 + p
+    turn p q = omega arith
+
+module _ (a b : List ℕ) (e : length a ≡ length b) (ha : Bytes a) (hb : Bytes b) where
+  byte : (i m n k : ℕ) → m ≡ bitXor n k
+      → getD (xorList a b) i 0 + 256 * m ≡ bitXor (getD a i 0 + 256 * n) (getD b i 0 + 256 * k)
+  byte i m n k h =
+      ap₂ (λ (x y : ℕ). x + 256 * y) (xorList-at a b e i) h ∙ byte-xor (getD a i 0) (getD b i 0) n k (ha i) (hb i)
+
+  pub word64-xor : (at : ℕ) → word64 (xorList a b) at ≡ bitXor (word64 a at) (word64 b at)
+  word64-xor at =
+      byte at _ _ _
+      (byte (at + 1) _ _ _
+      (byte (at + 2) _ _ _
+      (byte (at + 3) _ _ _
+      (byte (at + 4) _ _ _ (byte (at + 5) _ _ _ (byte (at + 6) _ _ _ (byte (at + 7) 0 0 0 refl)))))))
+
+pub word64-part : (s : List ℕ) (a n at : ℕ) → at + 8 ≤ n → word64 (part a n s) at ≡ word64 s (a + at)
+word64-part s a n at h =
+    let e : (k : ℕ) → a + (at + k) ≡ a + at + k = λ k. omega arith in
+    omega
+    (arith, byte at _ refl (omega arith), byte (at + 1) _ (e 1) (omega arith), byte (at + 2) _ (e 2) (omega arith), byte (at + 3) _ (e 3) (omega arith), byte (at + 4) _ (e 4) (omega arith), byte (at + 5) _ (e 5) (omega arith), byte (at + 6) _ (e 6) (omega arith), byte (at + 7) _ (e 7) (omega arith))
+  where
+    byte : (p q : ℕ) → a + p ≡ q → p < n → getD (part a n s) p 0 ≡ getD s q 0
+    byte p q e l = getD-take n (drop a s) p 0 l ∙ getD-drop a s p 0 ∙ ap (λ (i : ℕ). getD s i 0) e
