@@ -63,8 +63,7 @@ returns c =
     let s : List ℕ = drop (n / 64 * 64) m in
     let end = d .before .before .rest-length in
     let first = d .before .before .before .before .before .copy-part .ensures in
-    let bits : n * 2 ^ 3 % 2 ^ 64 ≡ 8 * n % 2 ^ 64 = omega arith in
-    let long = d .before .bytes8 .ensures ∙ ap longBytes bits in
+    let long : d .before .bytes8 .result ≡ longBytes (8 * n % 2 ^ 64) = d .before .bytes8 .ensures ∙ ap longBytes (omega arith) in
     c .before .copy-part2 .ensures
     ∙ ap (λ (t : List ℕ). put (set t (n - n / 64 * 64) 0x80) (end .result - 8) (d .before .bytes8 .result))
     (first ∙ ap (put (zeros 128) 0) (take-all (n - n / 64 * 64) s (omega (arith, length-drop (n / 64 * 64) m))))
