@@ -78,7 +78,7 @@ def vectors():
         v.line(b"".join(x.to_bytes(8, "little") for x in [key] + words))
     for length in (0, 8, 15, 17, 135, 137, 144, 1000):
         v.line(rng.randbytes(length))
-    for _ in range(80):
+    for _ in range(200):
         v.block(rng.randbytes(32), rng.randrange(1 << 32), rng.randbytes(12))
     v.block(b"\xff" * 32, 0xFFFFFFFF, b"\xff" * 12)
     for use, batch in ((0, 0), (1, 1), (1, 0xFFFFFFFF), (0xFFFFFFFF, 0x01020304)):
@@ -86,7 +86,7 @@ def vectors():
     for length in range(201):
         v.digest(rng.randbytes(length))
     for count in range(1, 17):
-        for _ in range(5):
+        for _ in range(12):
             v.line(rng.randbytes(8 + 8 * count))
         v.line(b"\xff" * (8 + 8 * count))
     for _ in range(20):

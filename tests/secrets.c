@@ -56,8 +56,8 @@ int main(int argc, char **argv) {
     }
     RUN("chacha20::one::block", bench_chacha20_one(secret, 1, nonce, bytes), bytes);
     RUN("chacha20::four::block", bench_chacha20_four(keys, 1, nonce, words), words);
-    RUN("sha256::digest", bench_sha256_one(secret, 200, bytes), bytes);
-    RUN("sha256::digest4", bench_sha256_four(secret, bytes), bytes);
+    RUN("sha256::one::digest", bench_sha256_one(secret, 200, bytes), bytes);
+    RUN("sha256::four::digest", bench_sha256_four(secret, bytes), bytes);
     RUN("gf64::fold", fold[0] = bench_fold(0x0123456789abcdef, secret, 128), fold);
     RUN("gf64::fold_four", bench_fold_four(table, secret, 512, 128, folds), folds);
     return failed ? 9 : 0;

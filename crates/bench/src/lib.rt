@@ -37,14 +37,14 @@ pub extern "C" fn bench_chacha20_four(
 pub extern "C" fn bench_sha256_one(m: &[u8], out: &mut [u8; 32])
     ensures { λ _. ⌜ now (out .exit) ≡ digestOf (now (m .entry)) ⌝ }
 {
-    *out = sha256::digest(m);
+    *out = sha256::one::digest(m);
 }
 
 #[no_mangle]
 pub extern "C" fn bench_sha256_four(m: &[u8; 128], out: &mut [u8; 128])
     ensures { λ _. ⌜ now (out .exit) ≡ digests (now (m .entry)) ⌝ }
 {
-    *out = sha256::digest4(*m);
+    *out = sha256::four::digest(*m);
 }
 
 #[no_mangle]

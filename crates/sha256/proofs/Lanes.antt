@@ -9,11 +9,13 @@ use Rattle.words.specs.Lanes.{lane}
 use Rattle.words.proofs.Lanes.{lane-at, lane-length}
 use Rattle.sha256.specs.declared.Work.{Work}
 use Rattle.sha256.specs.Sha.{wordAt, padding, constants, padded, initial, nextWord, scheduled, stepped, roundAt, rounds, added, compressed, hashed, workBytes, digestOf}
-use Rattle.sha256.specs.Four.{message, joined, digests, padWords, laned, wordsOf, workOf, schedules, scheduleIn, fourRounds, fourInLanes, roundsInLanes, digestIn}
+use Rattle.sha256.specs.Four.{message, joined, digests, padWords, laned, wordsOf, workOf, schedules, scheduleIn, fourInLanes, roundsInLanes, digestIn}
+use Rattle.sha256.specs.Pieces.{fourRounds}
 use Rattle.sha256.proofs.Progress.{Begun}
 use Rattle.sha256.proofs.Words.{tabulate-length, tabulate-at, next-cong, word-first, word-next, scheduled-length}
 use Rattle.sha256.proofs.Blocks.{padding-length}
 use Rattle.sha256.proofs.Digests.{joined-cong}
+use Rattle.sha256.proofs.Rounds.{four-more}
 
 -- ---- lists side by side
 
@@ -182,15 +184,6 @@ round-in k w s i l at e h q =
     let place : at ≡ 0 + 4 * i + l = omega arith in
     ap₂ (stepped s) (ap (λ (c : List ℕ). getD c i 0) e)
     (ap (λ (j : ℕ). getD w j 0) place ∙ sym (lane-at l 0 64 i w h))
-
-pub four-more : (i : ℕ) (w : List ℕ) (s : Work) → fourRounds i w (rounds i w s) ≡ rounds (i + 4) w s
-unfolding fourRounds rounds
-four-more i w s =
-    let e1 : i + 1 ≡ suc i = omega arith in
-    let e2 : i + 2 ≡ suc (suc i) = omega arith in
-    let e3 : i + 3 ≡ suc (suc (suc i)) = omega arith in
-    let e4 : i + 4 ≡ suc (suc (suc (suc i))) = omega arith in
-    rw (e1, e2, e3, e4) refl
 
 pub lanes-length : (i : ℕ) (w : List ℕ) → length (roundsInLanes i w) ≡ 32
 unfolding roundsInLanes

@@ -6,7 +6,8 @@ use lib.ListN.{getD}
 use Rattle.words.specs.Bytes.{part}
 use Rattle.words.specs.Lanes.{lane}
 use Rattle.sha256.specs.declared.Work.{Work}
-use Rattle.sha256.specs.Sha.{tabulate, padded, initial, scheduled, roundAt, rounds, added, workBytes, digestOf}
+use Rattle.sha256.specs.Sha.{tabulate, padded, initial, scheduled, rounds, added, workBytes, digestOf}
+use Rattle.sha256.specs.Pieces.{fourRounds}
 
 -- message l of those in m
 abbrev pub message : ℕ → List ℕ → List ℕ
@@ -53,10 +54,6 @@ schedules m = laned 64 (λ l. scheduled 48 (padded (message l m)))
 -- the schedule in lane l
 unfoldable pub scheduleIn : ℕ → List ℕ → List ℕ
 scheduleIn l w = lane l 64 w
-
--- rounds i to i + 3 of a schedule
-unfoldable pub fourRounds : ℕ → List ℕ → Work → Work
-fourRounds i w s = roundAt (i + 3) w (roundAt (i + 2) w (roundAt (i + 1) w (roundAt i w s)))
 
 -- rounds i to i + 3 in each lane of t
 unfoldable pub fourInLanes : ℕ → List ℕ → List ℕ → List ℕ

@@ -31,7 +31,7 @@ fn block(p: &[u8]) {
 
 // A message: its digest.
 fn digest(p: &[u8]) {
-    print(&sha256::digest(p));
+    print(&sha256::one::digest(p));
 }
 
 // A million of a byte. The `ensures` gives only the length, which lending the array as a slice needs.
@@ -51,7 +51,7 @@ fn repeated(p: &[u8]) {
         return;
     }
     let m = million(p[4]);
-    print(&sha256::digest(&m[..n]));
+    print(&sha256::one::digest(&m[..n]));
 }
 
 // Four keys in lanes.
@@ -88,7 +88,7 @@ fn four_digests(p: &[u8]) {
     }
     let mut m = [0u8; 128];
     words::copy_part(&mut m, 0, p);
-    print(&sha256::digest4(m));
+    print(&sha256::four::digest(m));
 }
 
 // A key and four columns: their folds.
@@ -156,7 +156,7 @@ fn run(s: &[u8]) {
 }
 
 fn main() {
-    let mut buffer = io::large_buffer();
+    let mut buffer = million(0);
     let n = io::read_full(STDIN_FILENO, &mut buffer);
     run(&buffer[..n]);
 }

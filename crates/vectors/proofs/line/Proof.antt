@@ -1,7 +1,4 @@
 use Rattle.foldtext.proofs.Laws.{holds-within, holds-counted}
-use native.Mathlib.Omega.{arith}
-use lib.ListN.{length, length-take}
-use mathlib.Core.Path.{sym, ap, _∙_}
 use borrow.Author.Needs.{needs}
 use Rattle.vectors.proofs.line.Statement.{statement}
 use Rattle.vectors.proofs.line.Tie as tie
