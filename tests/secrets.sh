@@ -2,9 +2,9 @@
 # Runs the compiled functions under memcheck with their secrets marked undefined; a planted leak must be seen.
 set -eu
 cd "$(dirname "$0")/.."
-rt staticlib bench >/dev/null
 out=$(mktemp -d)
 trap 'rm -r "$out"' EXIT
+rt staticlib bench >"$out/log" 2>&1 || { cat "$out/log"; exit 1; }
 gcc -O1 -Wall -o "$out/secrets" tests/secrets.c target/staticlib/libbench.a
 valgrind -q --log-file="$out/log" "$out/secrets"
 if valgrind -q --log-file="$out/log" "$out/secrets" leak; then

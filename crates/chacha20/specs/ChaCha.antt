@@ -19,6 +19,7 @@ halfQuarter m n q =
 unfoldable pub quarterRound : ℕ → ℕ → ℕ → ℕ → Quad
 quarterRound a b c d = halfQuarter 8 7 (halfQuarter 16 12 (record { a = a; b = b; c = c; d = d }))
 
+-- a state with four words put in the places i, j, k and l
 unfoldable pub putQuad : ℕ → ℕ → ℕ → ℕ → Quad → List ℕ → List ℕ
 putQuad i j k l q s = set (set (set (set s i (q .a)) j (q .b)) k (q .c)) l (q .d)
 

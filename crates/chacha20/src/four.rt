@@ -149,9 +149,9 @@ fn start_lane(keys: &[u32; 32], l: usize, counter: u32, nonce: &[u8; 12]) -> Sta
         x10: key_word(keys, l, 6),
         x11: key_word(keys, l, 7),
         x12: counter,
-        x13: crate::one::nonce_word(nonce, 0),
-        x14: crate::one::nonce_word(nonce, 4),
-        x15: crate::one::nonce_word(nonce, 8),
+        x13: crate::nonce_word(nonce, 0),
+        x14: crate::nonce_word(nonce, 4),
+        x15: crate::nonce_word(nonce, 8),
     }
 }
 
@@ -172,6 +172,6 @@ pub fn block(keys: &[u32; 32], counter: u32, nonce: &[u8; 12]) -> [u32; 64]
     let s = start(keys, counter, nonce);
     let mut t = s;
     rounds(&mut t);
-    crate::one::add_words(&mut t, &s);
+    crate::add_words(&mut t, &s);
     t
 }

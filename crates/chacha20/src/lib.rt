@@ -3,7 +3,10 @@ pub mod four;
 pub mod one;
 
 ghost use mathlib.Core.Path.{_≡_};
-ghost use Rattle.chacha20.specs.ChaCha.{quarterRound};
+ghost use Prim.Native.Nat.{_+_, _<_};
+ghost use lib.ListN.{length};
+ghost use Rattle.words.specs.Bytes.{word32};
+ghost use Rattle.chacha20.specs.ChaCha.{quarterRound, addWords};
 ghost use Rattle.chacha20.specs.Nonce.{nonceOf};
 
 pub struct Quad {
@@ -14,7 +17,7 @@ pub struct Quad {
 }
 
 // The quarter round of four words.
-pub fn quarter(a: u32, b: u32, c: u32, d: u32) -> Quad
+fn quarter(a: u32, b: u32, c: u32, d: u32) -> Quad
     ensures { λ r. ⌜ r ≡ quarterRound a b c d ⌝ }
 {
     let a1 = words::add(a, b);
@@ -40,4 +43,24 @@ pub fn nonce(purpose: u32, batch: u32) -> [u8; 12]
     let p = words::bytes32(purpose);
     let b = words::bytes32(batch);
     [p[0], p[1], p[2], p[3], b[0], b[1], b[2], b[3], 0, 0, 0, 0]
+}
+
+// The word at a place of a nonce.
+fn nonce_word(nonce: &[u8; 12], at: usize) -> u32
+    requires { ⌜ at + 3 < 12 ⌝ }
+    ensures { λ r. ⌜ r ≡ word32 (now (nonce .entry)) at ⌝ }
+{
+    words::join32(nonce[at], nonce[at + 1], nonce[at + 2], nonce[at + 3])
+}
+
+// Adds the words of src to those of dst, modulo 2^32.
+fn add_words(dst: &mut [u32], src: &[u32])
+    requires { ⌜ length (now dst) ≡ length (now src) ⌝ }
+    ensures { λ _. ⌜ now (dst .exit) ≡ addWords (now (dst .entry)) (now (src .entry)) ⌝ }
+{
+    let mut i = 0;
+    while i < dst.len() {
+        dst[i] = words::add(dst[i], src[i]);
+        i += 1;
+    }
 }

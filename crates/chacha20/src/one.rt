@@ -1,9 +1,8 @@
 // One block.
 ghost use mathlib.Core.Path.{_≡_};
 ghost use Prim.Native.Nat.{_+_, _<_};
-ghost use lib.ListN.{length};
-ghost use Rattle.words.specs.Bytes.{word32, bytesOfWords};
-ghost use Rattle.chacha20.specs.ChaCha.{quarterAt, doubleRound, doubleRounds, addWords, startOf, blockOf};
+ghost use Rattle.words.specs.Bytes.{word32};
+ghost use Rattle.chacha20.specs.ChaCha.{quarterAt, doubleRound, doubleRounds, startOf, blockOf};
 
 // The quarter round on words i, j, k and l of a state.
 fn quarter_round(s: &mut [u32; 16], i: usize, j: usize, k: usize, l: usize)
@@ -38,30 +37,11 @@ fn rounds(s: &mut [u32; 16])
     }
 }
 
-// Adds the words of src to those of dst, modulo 2^32.
-pub fn add_words(dst: &mut [u32], src: &[u32])
-    requires { ⌜ length (now dst) ≡ length (now src) ⌝ }
-    ensures { λ _. ⌜ now (dst .exit) ≡ addWords (now (dst .entry)) (now (src .entry)) ⌝ }
-{
-    let mut i = 0;
-    while i < dst.len() {
-        dst[i] = words::add(dst[i], src[i]);
-        i += 1;
-    }
-}
-
 fn key_word(key: &[u8; 32], at: usize) -> u32
     requires { ⌜ at + 3 < 32 ⌝ }
     ensures { λ r. ⌜ r ≡ word32 (now (key .entry)) at ⌝ }
 {
     words::join32(key[at], key[at + 1], key[at + 2], key[at + 3])
-}
-
-pub fn nonce_word(nonce: &[u8; 12], at: usize) -> u32
-    requires { ⌜ at + 3 < 12 ⌝ }
-    ensures { λ r. ⌜ r ≡ word32 (now (nonce .entry)) at ⌝ }
-{
-    words::join32(nonce[at], nonce[at + 1], nonce[at + 2], nonce[at + 3])
 }
 
 fn start(key: &[u8; 32], counter: u32, nonce: &[u8; 12]) -> [u32; 16]
@@ -81,9 +61,9 @@ fn start(key: &[u8; 32], counter: u32, nonce: &[u8; 12]) -> [u32; 16]
         key_word(key, 24),
         key_word(key, 28),
         counter,
-        nonce_word(nonce, 0),
-        nonce_word(nonce, 4),
-        nonce_word(nonce, 8),
+        crate::nonce_word(nonce, 0),
+        crate::nonce_word(nonce, 4),
+        crate::nonce_word(nonce, 8),
     ]
 }
 
@@ -94,7 +74,7 @@ pub fn block(key: &[u8; 32], counter: u32, nonce: &[u8; 12]) -> [u8; 64]
     let s = start(key, counter, nonce);
     let mut t = s;
     rounds(&mut t);
-    add_words(&mut t, &s);
+    crate::add_words(&mut t, &s);
     let mut out = [0u8; 64];
     words::store_words(&mut out, &t);
     out

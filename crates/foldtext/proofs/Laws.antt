@@ -1,12 +1,12 @@
 -- Digits one after the other, and inputs. Assumes nothing.
 use mathlib.Core.Path.{_≡_, refl, sym, ap, ap₂, _∙_}
 use mathlib.Core.Bool.{Bool, true, false, cond, false≢true}
-use mathlib.Core.List.{List, [], _∷_, _++_, append-assoc}
+use mathlib.Core.List.{List, [], _∷_, _++_, append-assoc, append-nil}
 use Prim.Native.Nat.{ℕ, zero, suc, _+_, _-_, _/_, _%_, _<_, _≤_}
 use native.Mathlib.Omega.{arith}
 use lib.Dec.{leb, eqb}
-use lib.ListN.{length, drop, set, take, length-take, length-append, length-set}
-use lib.Seq.{drop-cons, drop-set-lt, getD-set-same}
+use lib.ListN.{replicate, length, drop, set, take, length-take, length-append, length-set}
+use lib.Seq.{take-append-seam, drop-cons, drop-set-lt, getD-set-same}
 use borrow.Author.Tests.{leb-true}
 use Rattle.foldtext.specs.Line.{isInput, hexDigit, hexDigits, foldLine, refusedLine, lineOf, Holds}
 use Rattle.foldtext.specs.declared.Text.{Text}
@@ -51,10 +51,19 @@ pub line-other : (s : List ℕ) → isInput (length s) ≡ false → lineOf s �
 unfolding lineOf
 line-other s e = ap (λ (b : Bool). cond b (foldLine (foldBytes (word64 s 0) (drop 8 s))) refusedLine) e
 
--- ---- a text holds as many bytes as it says
+-- ---- a text starts with its line
+
+-- a line of 17 bytes leaves no room
+pub whole-line : (l : List ℕ) → length l ≡ 17 → l ≡ l ++ replicate (17 - length l) 0
+whole-line l e =
+    sym (ap (λ (n : ℕ). l ++ replicate (17 - n) 0) e ∙ append-nil l)
+
+pub holds-line : (r : Text) (l : List ℕ) → Holds r l → take (r .len) (r .bytes) ≡ l
+holds-line r l h =
+    ap₂ (λ (n : ℕ) (b : List ℕ). take n b) (h .long) (h .bytes) ∙ take-append-seam l (replicate (17 - length l) 0)
 
 pub holds-counted : (r : Text) (l : List ℕ) → Holds r l → r .len ≡ length (take (r .len) (r .bytes))
-holds-counted r l h = h .long ∙ sym (ap length (h .bytes))
+holds-counted r l h = h .long ∙ sym (ap length (holds-line r l h))
 
 pub holds-within : (r : Text) (l : List ℕ) → Holds r l → r .len ≤ length (r .bytes)
 holds-within r l h = omega (arith, holds-counted r l h, length-take (r .len) (r .bytes))

@@ -2,9 +2,9 @@
 use mathlib.Core.Path.{_≡_}
 use mathlib.Core.Bool.{Bool, false, cond}
 use mathlib.Core.List.{List, [], _∷_, _++_}
-use Prim.Native.Nat.{ℕ, zero, suc, _+_, _/_, _%_}
+use Prim.Native.Nat.{ℕ, zero, suc, _+_, _-_, _/_, _%_}
 use lib.Dec.{leb, ltb, eqb}
-use lib.ListN.{length, take, drop}
+use lib.ListN.{length, drop, replicate}
 use Rattle.words.specs.Bytes.{word64}
 use Rattle.gf64.specs.Field.{foldBytes}
 use Rattle.foldtext.specs.declared.Text.{Text}
@@ -34,7 +34,7 @@ refusedLine = 114 ∷ 101 ∷ 102 ∷ 117 ∷ 115 ∷ 101 ∷ 100 ∷ 10 ∷ []
 unfoldable pub lineOf : List ℕ → List ℕ
 lineOf s = cond (isInput (length s)) (foldLine (foldBytes (word64 s 0) (drop 8 s))) refusedLine
 
--- the code's line holds these bytes
+-- the code's text: these bytes, and zeros up to its 17
 pub record Holds (r : Text) (l : List ℕ) : Type 0 where
   pub long : r .len ≡ length l
-  pub bytes : take (r .len) (r .bytes) ≡ l
+  pub bytes : r .bytes ≡ l ++ replicate (17 - length l) 0

@@ -192,7 +192,8 @@ fn join_four(a: [u32; 8]) -> [u64; 4]
     ]
 }
 
-// The folds of four columns of len bytes, one after the other, by the table of a key.
+// The folds of four columns of len bytes, one after the other, by the table of a key. (What it gives by anything but a key's table is
+// left open: `table` is how a caller gets one.)
 pub fn fold_four(t: &[u32; 512], s: &[u8], len: usize) -> [u64; 4]
     requires { ⌜ length (now s) ≡ 4 * len ⌝ }
     ensures { λ r. ⌜ ((g : ℕ) → now (t .entry) ≡ tableOf g → r ≡ foldsOf g len (now (s .entry))) ⌝ }

@@ -54,25 +54,13 @@ fn repeated(p: &[u8]) {
     print(&sha256::one::digest(&m[..n]));
 }
 
-// Four keys in lanes.
-fn load_keys(p: &[u8]) -> [u32; 32]
-    requires { ⌜ 128 ≤ length (now p) ⌝ }
-{
-    let mut keys = [0u32; 32];
-    let mut i = 0;
-    while i < 32 {
-        keys[i] = words::load32(p, 4 * i);
-        i += 1;
-    }
-    keys
-}
-
 // Four keys in lanes, a counter and a nonce: the four blocks in lanes.
 fn four_blocks(p: &[u8]) {
     if p.len() != 144 {
         return;
     }
-    let keys = load_keys(p);
+    let mut keys = [0u32; 32];
+    words::load_words(&mut keys, &p[0..128]);
     let mut nonce = [0u8; 12];
     words::copy_part(&mut nonce, 0, &p[132..144]);
     let t = chacha20::four::block(&keys, words::load32(p, 128), &nonce);

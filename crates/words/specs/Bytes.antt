@@ -35,7 +35,12 @@ word64 s at =
     ∷ getD s (at + 7) 0
     ∷ [])
 
--- 4-byte numbers one after the other
+-- n 4-byte numbers, from a place of a byte range on
+unfoldable pub words32 : ℕ → List ℕ → ℕ → List ℕ
+words32 zero s at = []
+words32 (suc n) s at = word32 s at ∷ words32 n s (at + 4)
+
+-- the bytes of 4-byte numbers, one after the other
 unfoldable pub bytesOfWords : List ℕ → List ℕ
 bytesOfWords [] = []
 bytesOfWords (w ∷ ws) = bytes 4 w ++ bytesOfWords ws

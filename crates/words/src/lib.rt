@@ -2,7 +2,7 @@
 ghost use mathlib.Core.Path.{_≡_};
 ghost use Prim.Native.Nat.{_+_, _*_, _≤_, _<_};
 ghost use lib.ListN.{length, getD};
-ghost use Rattle.words.specs.Bytes.{bytes, word32, word64, bytesOfWords, put};
+ghost use Rattle.words.specs.Bytes.{bytes, word32, word64, words32, bytesOfWords, put};
 ghost use Rattle.words.specs.Bits.{bitAt};
 ghost use Rattle.words.specs.Xor.{xorList, xorPart};
 ghost use Rattle.words.specs.Word32.{add32, rotl, rotr};
@@ -142,6 +142,18 @@ pub fn store_words(dst: &mut [u8], words: &[u32])
     let mut i = 0;
     while i < words.len() {
         store32(dst, 4 * i, words[i]);
+        i += 1;
+    }
+}
+
+// Fills dst with the words of s, 4 bytes each.
+pub fn load_words(dst: &mut [u32], s: &[u8])
+    requires { ⌜ 4 * length (now dst) ≤ length (now s) ⌝ }
+    ensures { λ _. ⌜ now (dst .exit) ≡ words32 (length (now (dst .entry))) (now (s .entry)) 0 ⌝ }
+{
+    let mut i = 0;
+    while i < dst.len() {
+        dst[i] = load32(s, 4 * i);
         i += 1;
     }
 }

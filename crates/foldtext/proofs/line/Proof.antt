@@ -1,6 +1,6 @@
 use lib.ListN.{length-drop, length, drop}
 use Rattle.foldtext.specs.Line.{Holds, isInput, foldLine, lineOf}
-use Rattle.foldtext.proofs.Laws.{line-input, line-other, input-long, foldLine-length}
+use Rattle.foldtext.proofs.Laws.{whole-line, line-input, line-other, input-long, foldLine-length}
 use mathlib.Core.Path.{subst, _≡_, sym, ap, ap₂, _∙_}
 use Rattle.gf64.specs.Field.{foldBytes}
 use lib.Seq.{take-all}
@@ -43,7 +43,7 @@ returns c =
     let made : c .fold-line .result ≡ lineOf s =
     c .fold-line .ensures ∙ ap foldLine (c .before .fold .ensures ∙ ap₂ foldBytes (c .before .before .before .load64 .ensures) words) ∙ sym (line-input s held) in
     let long : length (lineOf s) ≡ 17 = ap length (line-input s held) ∙ foldLine-length _ in
-    record { long = sym long; bytes = take-all 17 (c .fold-line .result) (omega (arith, ap length made)) ∙ made }
+    record { long = sym long; bytes = made ∙ whole-line (lineOf s) long }
 
 returns-2 : tie.Need-returns-2
 returns-2 c =

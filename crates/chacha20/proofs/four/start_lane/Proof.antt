@@ -1,6 +1,4 @@
 use Rattle.chacha20.proofs.Laws.{started}
-use Rattle.chacha20.specs.ChaCha.{startOf}
-use mathlib.Core.Path.{refl}
 use borrow.Author.Needs.{needs}
 use Rattle.chacha20.proofs.four.start_lane.Statement.{statement}
 use Rattle.chacha20.proofs.four.start_lane.Tie as tie

@@ -7,8 +7,8 @@ use Rattle.words.proofs.Lists.{Updated, updated-none, updated-one, updated-all}
 use Rattle.chacha20.specs.ChaCha.{addWords}
 use Rattle.chacha20.proofs.Laws.{addWords-length, addWords-at}
 use borrow.Author.Needs.{needs}
-use Rattle.chacha20.proofs.one.add_words.Statement.{statement}
-use Rattle.chacha20.proofs.one.add_words.Tie as tie
+use Rattle.chacha20.proofs.add_words.Statement.{statement}
+use Rattle.chacha20.proofs.add_words.Tie as tie
 
 abbrev Inv-loop : tie.InvT-loop
 Inv-loop dst₀ src i₀ dst i = (i ≤ length dst₀) × Updated dst₀ dst (λ k. add32 (getD dst₀ k 0) (getD src k 0)) i
