@@ -1,19 +1,11 @@
 /* Times the proved functions beside plain C, in one run: each row's two sides in turn, the least of many passes. Outputs are
    compared first. */
+#include "bench.h"
 #include "plain.h"
 #include <stdio.h>
 #include <stdlib.h>
 #include <string.h>
 #include <time.h>
-
-/* crates/bench; a slice is a pointer and a length */
-void bench_chacha20_one(const uint8_t key[32], uint32_t counter, const uint8_t nonce[12], uint8_t out[64]);
-void bench_chacha20_four(const uint32_t keys[32], uint32_t counter, const uint8_t nonce[12], uint32_t out[64]);
-void bench_sha256_one(const uint8_t *m, size_t len, uint8_t out[32]);
-void bench_sha256_four(const uint8_t m[128], uint8_t out[128]);
-uint64_t bench_fold(uint64_t key, const uint8_t *s, size_t len);
-void bench_fold_table(uint64_t key, uint32_t table[512]);
-void bench_fold_four(const uint32_t table[512], const uint8_t *s, size_t s_len, size_t len, uint64_t out[4]);
 
 enum { PASSES = 200, COLUMNS = 128, LENGTH = 128 };
 

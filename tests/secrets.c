@@ -1,18 +1,9 @@
 /* No branch and no address may depend on a secret. Contracts can't say this and a mask in the source is not enough, so the compiled
    functions run under memcheck with every secret range marked undefined: a jump or an address that depends on one is reported. */
-#include <stddef.h>
-#include <stdint.h>
+#include "../bench/bench.h"
 #include <stdio.h>
 #include <string.h>
 #include <valgrind/memcheck.h>
-
-void bench_chacha20_one(const uint8_t key[32], uint32_t counter, const uint8_t nonce[12], uint8_t out[64]);
-void bench_chacha20_four(const uint32_t keys[32], uint32_t counter, const uint8_t nonce[12], uint32_t out[64]);
-void bench_sha256_one(const uint8_t *m, size_t len, uint8_t out[32]);
-void bench_sha256_four(const uint8_t m[128], uint8_t out[128]);
-uint64_t bench_fold(uint64_t key, const uint8_t *s, size_t len);
-void bench_fold_table(uint64_t key, uint32_t table[512]);
-void bench_fold_four(const uint32_t table[512], const uint8_t *s, size_t s_len, size_t len, uint64_t out[4]);
 
 static uint8_t secret[1024], nonce[12];
 static uint32_t table[512];
