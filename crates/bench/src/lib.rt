@@ -6,8 +6,8 @@ ghost use Rattle.gf64.specs.Field.{foldBytes};
 ghost use Rattle.gf64.specs.Table.{tableOf};
 ghost use Rattle.bench.specs.Folds.{foldsWhere};
 ghost use Prim.Native.Nat.{ℕ};
-ghost use Rattle.chacha20.specs.ChaCha.{blockOf, blockWords};
-ghost use Rattle.chacha20.specs.Lanes.{EachLane, keyIn};
+ghost use Rattle.chacha20.specs.ChaCha.{blockOf};
+ghost use Rattle.chacha20.specs.Lanes.{blocksOf};
 
 #[no_mangle]
 pub extern "C" fn bench_chacha20_one(
@@ -28,7 +28,7 @@ pub extern "C" fn bench_chacha20_four(
     nonce: &[u8; 12],
     out: &mut [u32; 64],
 )
-    ensures { λ _. ⌜ EachLane (λ l. blockWords (keyIn l (now (keys .entry))) counter (now (nonce .entry))) (now (out .exit)) ⌝ }
+    ensures { λ _. ⌜ now (out .exit) ≡ blocksOf (now (keys .entry)) counter (now (nonce .entry)) ⌝ }
 {
     *out = chacha20::four::block(keys, counter, nonce);
 }

@@ -7,10 +7,10 @@ use lib.ListN.{length, getD, length-set}
 use Rattle.words.specs.Bytes.{word32}
 use Rattle.words.specs.Lanes.{readLane, lane}
 use Rattle.words.specs.Word32.{add32}
-use Rattle.words.proofs.Lanes.{lane-at}
-use Rattle.words.proofs.Numbers.{word-back}
-use Rattle.chacha20.specs.ChaCha.{putQuad, quarterAt, columnRound, diagonalRound, doubleRound, doubleRounds, addWords, startOf}
-use Rattle.chacha20.specs.Lanes.{keyIn}
+use Rattle.words.proofs.Lanes.{lane-at, lane-laned}
+use Rattle.words.proofs.Numbers.{word-back, bytesOfWords-length}
+use Rattle.chacha20.specs.ChaCha.{putQuad, quarterAt, columnRound, diagonalRound, doubleRound, doubleRounds, addWords, startOf, blockWords, blockOf}
+use Rattle.chacha20.specs.Lanes.{keyIn, blocksOf}
 
 -- two lists are equal, head by head
 pub cons : {x y : ℕ} {s t : List ℕ} → x ≡ y → s ≡ t → _≡_ {A = List ℕ} (x ∷ s) (y ∷ t)
@@ -76,3 +76,24 @@ pub doubleRounds-length : (n : ℕ) (s : List ℕ) → length (doubleRounds n s)
 unfolding doubleRounds
 doubleRounds-length zero s = refl
 doubleRounds-length (suc n) s = doubleRound-length (doubleRounds n s) ∙ doubleRounds-length n s
+
+-- ---- blocks
+
+pub blockWords-length : (key : List ℕ) (counter : ℕ) (nonce : List ℕ) → length (blockWords key counter nonce) ≡ 16
+unfolding blockWords startOf
+blockWords-length key counter nonce =
+    addWords-length (doubleRounds 10 (startOf key counter nonce)) (startOf key counter nonce)
+    (doubleRounds-length 10 (startOf key counter nonce))
+    ∙ doubleRounds-length 10 (startOf key counter nonce)
+
+pub blockOf-length : (key : List ℕ) (counter : ℕ) (nonce : List ℕ) → length (blockOf key counter nonce) ≡ 64
+unfolding blockOf
+blockOf-length key counter nonce =
+    bytesOfWords-length (blockWords key counter nonce) ∙ ap (λ (n : ℕ). 4 * n) (blockWords-length key counter nonce)
+
+-- each lane of four blocks is the block of its key
+pub blocks-lane : (keys : List ℕ) (counter : ℕ) (nonce : List ℕ) (l : ℕ) → l < 4
+    → lane l 16 (blocksOf keys counter nonce) ≡ blockWords (keyIn l keys) counter nonce
+unfolding blocksOf
+blocks-lane keys counter nonce l h =
+    lane-laned 16 (λ m. blockWords (keyIn m keys) counter nonce) l h (blockWords-length (keyIn l keys) counter nonce)

@@ -4,8 +4,8 @@ ghost use Prim.Native.Nat.{_*_, _<_};
 ghost use lib.ListN.{length};
 ghost use Rattle.words.specs.Bytes.{word32};
 ghost use Rattle.words.specs.Lanes.{lane, putLane};
-ghost use Rattle.chacha20.specs.ChaCha.{doubleRound, doubleRounds, startOf, blockWords};
-ghost use Rattle.chacha20.specs.Lanes.{keyIn, listed, EachLane};
+ghost use Rattle.chacha20.specs.ChaCha.{doubleRound, doubleRounds, startOf};
+ghost use Rattle.chacha20.specs.Lanes.{keyIn, blocksOf, listed, EachLane};
 
 // One lane's state, in locals: the loop over the lanes is vectorized only if no lane is an array of its own.
 pub struct State {
@@ -167,7 +167,7 @@ fn start(keys: &[u32; 32], counter: u32, nonce: &[u8; 12]) -> [u32; 64]
 
 // The blocks of four keys under one counter and nonce.
 pub fn block(keys: &[u32; 32], counter: u32, nonce: &[u8; 12]) -> [u32; 64]
-    ensures { λ r. ⌜ EachLane (λ l. blockWords (keyIn l (now (keys .entry))) counter (now (nonce .entry))) r ⌝ }
+    ensures { λ r. ⌜ r ≡ blocksOf (now (keys .entry)) counter (now (nonce .entry)) ⌝ }
 {
     let s = start(keys, counter, nonce);
     let mut t = s;

@@ -4,54 +4,18 @@ use mathlib.Core.List.{List, _++_}
 use Prim.Native.Nat.{ℕ, zero, suc, _+_, _-_, _*_, _/_, _%_, _<_, _≤_}
 use native.Mathlib.Omega.{arith}
 use lib.ListN.{length, getD, drop, length-append, length-drop, List·getD-append}
-use lib.Seq.{ext-getD, getD-take, getD-drop, getD-append-add, length-take-le, take-all}
-use Rattle.words.specs.Lanes.{lane}
-use Rattle.words.proofs.Lanes.{lane-at, lane-length}
+use lib.Seq.{getD-take, getD-drop, getD-append-add, length-take-le, take-all}
+use Rattle.words.specs.Lanes.{lane, laned}
+use Rattle.words.proofs.Lanes.{lane-at, laned-length, laned-at, lane-laned, laned-is}
 use Rattle.sha256.specs.declared.Work.{Work}
 use Rattle.sha256.specs.Sha.{wordAt, padding, constants, padded, initial, nextWord, scheduled, stepped, roundAt, rounds, added, compressed, hashed, workBytes, digestOf}
-use Rattle.sha256.specs.Four.{message, joined, digests, padWords, laned, wordsOf, workOf, schedules, scheduleIn, fourInLanes, roundsInLanes, digestIn}
+use Rattle.sha256.specs.Four.{message, joined, digests, padWords, wordsOf, workOf, schedules, scheduleIn, fourInLanes, roundsInLanes, digestIn}
 use Rattle.sha256.specs.Pieces.{fourRounds}
-use Rattle.sha256.proofs.Progress.{Begun}
-use Rattle.sha256.proofs.Words.{tabulate-length, tabulate-at, next-cong, word-first, word-next, scheduled-length}
+use Rattle.words.proofs.Progress.{Begun}
+use Rattle.sha256.proofs.Words.{next-cong, word-first, word-next, scheduled-length}
 use Rattle.sha256.proofs.Blocks.{padding-length}
 use Rattle.sha256.proofs.Digests.{joined-cong}
 use Rattle.sha256.proofs.Rounds.{four-more}
-
--- ---- lists side by side
-
-module _ (n : ℕ) (f : ℕ → List ℕ) where
-  pub laned-length : length (laned n f) ≡ 4 * n
-  unfolding laned
-  laned-length = tabulate-length (4 * n) (λ j. getD (f (j % 4)) (j / 4) 0)
-
-  pub laned-at : (j : ℕ) → j < 4 * n → getD (laned n f) j 0 ≡ getD (f (j % 4)) (j / 4) 0
-  unfolding laned
-  laned-at = tabulate-at (4 * n) (λ j. getD (f (j % 4)) (j / 4) 0)
-
-  -- each lane holds its list
-  pub lane-laned : (l : ℕ) → l < 4 → length (f l) ≡ n → lane l n (laned n f) ≡ f l
-  lane-laned l hl e =
-      ext-getD 0 (lane l n (laned n f)) (f l) (lane-length l 0 n (laned n f) ∙ sym e) (λ w h. at w (omega (arith, lane-length l 0 n (laned n f))))
-    where
-      at : (w : ℕ) → w < n → getD (lane l n (laned n f)) w 0 ≡ getD (f l) w 0
-      at w h =
-          let here : (0 + 4 * w + l) % 4 ≡ l = omega arith in
-          let place : (0 + 4 * w + l) / 4 ≡ w = omega arith in
-          lane-at l 0 n w (laned n f) h
-          ∙ laned-at (0 + 4 * w + l) (omega arith)
-          ∙ ap₂ (λ (i j : ℕ). getD (f i) j 0) here place
-
-  -- and a list with these lanes is the one
-  pub laned-is : (t : List ℕ) → length t ≡ 4 * n → ((l : ℕ) → l < 4 → lane l n t ≡ f l) → t ≡ laned n f
-  laned-is t e lanes = ext-getD 0 t (laned n f) (e ∙ sym laned-length) (λ j h. at j (omega arith))
-    where
-      at : (j : ℕ) → j < 4 * n → getD t j 0 ≡ getD (laned n f) j 0
-      at j h =
-          let back : j ≡ 0 + 4 * (j / 4) + j % 4 = omega arith in
-          ap (λ (i : ℕ). getD t i 0) back
-          ∙ sym (lane-at (j % 4) 0 n (j / 4) t (omega arith))
-          ∙ ap (λ (l : List ℕ). getD l (j / 4) 0) (lanes (j % 4) (omega arith))
-          ∙ sym (laned-at j h)
 
 -- ---- the block of a message of 32 bytes
 

@@ -4,9 +4,9 @@ use Prim.Native.Nat.{ℕ, zero, suc, _+_, _*_, _/_, _%_}
 use mathlib.Core.List.{List, [], _∷_, _++_}
 use lib.ListN.{getD}
 use Rattle.words.specs.Bytes.{part}
-use Rattle.words.specs.Lanes.{lane}
+use Rattle.words.specs.Lanes.{lane, laned}
 use Rattle.sha256.specs.declared.Work.{Work}
-use Rattle.sha256.specs.Sha.{tabulate, padded, initial, scheduled, rounds, added, workBytes, digestOf}
+use Rattle.sha256.specs.Sha.{padded, initial, scheduled, rounds, added, workBytes, digestOf}
 use Rattle.sha256.specs.Pieces.{fourRounds}
 
 -- message l of those in m
@@ -25,10 +25,6 @@ digests m = joined 4 (λ l. digestOf (message l m))
 -- words 8 to 15 of the block of a message of 32 bytes: its padding
 unfoldable pub padWords : List ℕ
 padWords = 0x80000000 ∷ 0 ∷ 0 ∷ 0 ∷ 0 ∷ 0 ∷ 0 ∷ 256 ∷ []
-
--- four lists of n words side by side
-unfoldable pub laned : ℕ → (ℕ → List ℕ) → List ℕ
-laned n f = tabulate (4 * n) (λ j. getD (f (j % 4)) (j / 4) 0)
 
 -- eight words as a list, and back
 abbrev pub wordsOf : Work → List ℕ

@@ -4,7 +4,8 @@ ghost use mathlib.Core.Path.{_≡_};
 ghost use Prim.Native.Nat.{_+_, _<_};
 ghost use lib.ListN.{length, getD, take};
 ghost use Rattle.words.specs.Lanes.{lane, putLane};
-ghost use Rattle.sha256.specs.Four.{joined, digests, padWords, laned, wordsOf, workOf, schedules, scheduleIn, fourInLanes, roundsInLanes, digestIn};
+ghost use Rattle.words.specs.Lanes.{laned};
+ghost use Rattle.sha256.specs.Four.{joined, digests, padWords, wordsOf, workOf, schedules, scheduleIn, fourInLanes, roundsInLanes, digestIn};
 ghost use Rattle.sha256.specs.Pieces.{fourRounds};
 ghost use Rattle.sha256.specs.Sha.{constants, roundAt};
 

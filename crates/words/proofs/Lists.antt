@@ -7,12 +7,29 @@ use native.Mathlib.Omega.{arith}
 use native.Mathlib.Decide.{decLt, ℕ-discrete}
 use lib.Bits.{bitXor, xor-lt, xor-zero-r, xor-comm, xor-self}
 use lib.ListN.{length, getD, set, take, drop, replicate, length-replicate, getD-replicate, length-set, length-append, length-drop, length-take, List·getD-append, List·getD-eq-default}
-use lib.Seq.{ext-getD, getD-set-same, getD-set-other, getD-take, getD-drop, getD-append-add, length-take-le}
+use lib.Seq.{getD-at, ext-getD, getD-set-same, getD-set-other, getD-take, getD-drop, getD-append-add, length-take-le}
 use borrow.Rule.Slice.PartMut.{putMid, post-is}
-use Rattle.words.specs.Bytes.{Bytes, part, put}
+use Rattle.words.specs.Bytes.{Bytes, tabulate, part, put}
 use Rattle.words.specs.Bits.{bitOf, bitAt}
 use Rattle.words.specs.Xor.{xorEach, xorPart, xorList, scale}
 use Rattle.words.proofs.Xor.{bit-xor, xor-assoc, scale-xor, scale-lt}
+
+-- ---- a list by its elements
+
+pub tabulate-length : (n : ℕ) (f : ℕ → ℕ) → length (tabulate n f) ≡ n
+unfolding tabulate
+tabulate-length zero f = refl
+tabulate-length (suc n) f = length-append (tabulate n f) (f n ∷ []) ∙ omega (arith, tabulate-length n f)
+
+pub tabulate-at : (n : ℕ) (f : ℕ → ℕ) (t : ℕ) → t < n → getD (tabulate n f) t 0 ≡ f t
+unfolding tabulate
+tabulate-at zero f t h = absurd (not-suc-le-zero h)
+tabulate-at (suc n) f t h = here (ℕ-discrete t n) (tabulate-at n f t)
+  where
+    here : Dec (t ≡ n) → (t < n → getD (tabulate n f) t 0 ≡ f t) → getD (tabulate (suc n) f) t 0 ≡ f t
+    here (yes e) before = getD-at (tabulate n f) (f n) [] 0 t (tabulate-length n f ∙ sym e) ∙ ap f (sym e)
+    here (no ne) before =
+        List·getD-append (tabulate n f) (f n ∷ []) 0 t (omega (arith, tabulate-length n f)) ∙ before (omega arith)
 
 -- ---- a list with f i added to its element i
 

@@ -8,7 +8,7 @@ use native.Mathlib.Omega.{arith}
 use lib.Arith.{mod-mul}
 use lib.ListN.{length, getD, drop, List·getD-append}
 use Rattle.words.specs.Bytes.{Bytes, number, bytes, word32, word64, words32, bytesOfWords, part, put}
-use Rattle.words.proofs.Lists.{put-before, put-in, xorList-at}
+use Rattle.words.proofs.Lists.{tabulate-length, tabulate-at, put-before, put-in, xorList-at}
 use Rattle.words.specs.Xor.{xorList}
 use lib.Bits.{bitXor, xor-block}
 use lib.Seq.{ext-getD, getD-take, getD-drop}
@@ -94,29 +94,16 @@ words-more ws d i h e done k lt = here (decLt k (4 * i))
         ∙ sym (bytesOfWords-at ws i (k - 4 * i) h r)
         ∙ ap (λ (j : ℕ). getD (bytesOfWords ws) j 0) (sym q)
 
--- ---- the words of a byte range
-
-pub words32-length : (n : ℕ) (s : List ℕ) (at : ℕ) → length (words32 n s at) ≡ n
-unfolding words32
-words32-length zero s at = refl
-words32-length (suc n) s at = ap suc (words32-length n s (at + 4))
-
-pub words32-at : (n : ℕ) (s : List ℕ) (at k : ℕ) → k < n → getD (words32 n s at) k 0 ≡ word32 s (at + 4 * k)
-unfolding words32
-words32-at zero s at k h = absurd (not-suc-le-zero h)
-words32-at (suc n) s at zero h = let e : at ≡ at + 4 * 0 = omega arith in ap (word32 s) e
-words32-at (suc n) s at (suc k) h =
-    let e : at + 4 + 4 * k ≡ at + 4 * suc k = omega arith in
-    words32-at n s (at + 4) k (le-of-suc-le-suc h) ∙ ap (word32 s) e
-
 -- words that were laid out as bytes come back
-pub words32-back : (ws : List ℕ) → ((i : ℕ) → getD ws i 0 < 2 ^ 32) → words32 (length ws) (bytesOfWords ws) 0 ≡ ws
+pub words32-back : (ws : List ℕ) → ((i : ℕ) → getD ws i 0 < 2 ^ 32) → words32 (length ws) (bytesOfWords ws) ≡ ws
 words32-back ws h =
-    ext-getD 0 (words32 (length ws) (bytesOfWords ws) 0) ws (words32-length (length ws) (bytesOfWords ws) 0)
+    ext-getD 0 (words32 (length ws) (bytesOfWords ws)) ws (tabulate-length (length ws) word)
     (λ i lt.
-    let lt′ : i < length ws = omega (arith, words32-length (length ws) (bytesOfWords ws) 0) in
-    let e : 0 + 4 * i ≡ 4 * i = omega arith in
-    words32-at (length ws) (bytesOfWords ws) 0 i lt′ ∙ ap (word32 (bytesOfWords ws)) e ∙ word-back ws i (h i))
+    let lt′ : i < length ws = omega (arith, tabulate-length (length ws) word) in
+    tabulate-at (length ws) word i lt′ ∙ word-back ws i (h i))
+  where
+    word : ℕ → ℕ
+    word i = word32 (bytesOfWords ws) (4 * i)
 
 -- an 8-byte number is two of 4 bytes
 pub word64-halves : (s : List ℕ) (at : ℕ) → word64 s at ≡ word32 s at + word32 s (at + 4) * 2 ^ 32

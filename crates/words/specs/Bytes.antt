@@ -35,10 +35,14 @@ word64 s at =
     ∷ getD s (at + 7) 0
     ∷ [])
 
--- n 4-byte numbers, from a place of a byte range on
-unfoldable pub words32 : ℕ → List ℕ → ℕ → List ℕ
-words32 zero s at = []
-words32 (suc n) s at = word32 s at ∷ words32 n s (at + 4)
+-- the list f 0, .., f (n - 1)
+unfoldable pub tabulate : ℕ → (ℕ → ℕ) → List ℕ
+tabulate zero f = []
+tabulate (suc n) f = tabulate n f ++ (f n ∷ [])
+
+-- n 4-byte numbers, from the start of a byte range
+abbrev pub words32 : ℕ → List ℕ → List ℕ
+words32 n s = tabulate n (λ i. word32 s (4 * i))
 
 -- the bytes of 4-byte numbers, one after the other
 unfoldable pub bytesOfWords : List ℕ → List ℕ

@@ -1,7 +1,8 @@
 -- Four lists of words side by side in one list: word w of lane l stands at 4w + l. Assumes nothing.
-use Prim.Native.Nat.{ℕ, zero, suc, _+_}
+use Prim.Native.Nat.{ℕ, zero, suc, _+_, _*_, _/_, _%_}
 use mathlib.Core.List.{List, [], _∷_}
 use lib.ListN.{getD, set}
+use Rattle.words.specs.Bytes.{tabulate}
 
 -- n words of lane l, from place j on (a multiple of 4)
 abbrev pub readLane : ℕ → ℕ → ℕ → List ℕ → List ℕ
@@ -16,3 +17,7 @@ lane l n t = readLane l 0 n t
 abbrev pub putLane : ℕ → ℕ → List ℕ → List ℕ → List ℕ
 putLane l j [] t = t
 putLane l j (x ∷ s) t = putLane l (j + 4) s (set t (j + l) x)
+
+-- four lists of n words side by side, f l in lane l
+unfoldable pub laned : ℕ → (ℕ → List ℕ) → List ℕ
+laned n f = tabulate (4 * n) (λ j. getD (f (j % 4)) (j / 4) 0)

@@ -149,7 +149,7 @@ pub fn store_words(dst: &mut [u8], words: &[u32])
 // Fills dst with the words of s, 4 bytes each.
 pub fn load_words(dst: &mut [u32], s: &[u8])
     requires { ⌜ 4 * length (now dst) ≤ length (now s) ⌝ }
-    ensures { λ _. ⌜ now (dst .exit) ≡ words32 (length (now (dst .entry))) (now (s .entry)) 0 ⌝ }
+    ensures { λ _. ⌜ now (dst .exit) ≡ words32 (length (now (dst .entry))) (now (s .entry)) ⌝ }
 {
     let mut i = 0;
     while i < dst.len() {

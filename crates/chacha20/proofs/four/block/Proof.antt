@@ -1,6 +1,8 @@
 use Rattle.chacha20.proofs.Laws.{addWords-length, lane-add}
 use Rattle.chacha20.specs.ChaCha.{doubleRounds, addWords, blockWords}
 use Rattle.words.specs.Lanes.{lane}
+use Rattle.words.proofs.Lanes.{laned-is}
+use Rattle.chacha20.specs.Lanes.{blocksOf}
 use lib.ListN.{length}
 use mathlib.Core.Path.{_≡_, sym, ap, ap₂, _∙_}
 use borrow.Author.Needs.{needs}
@@ -23,18 +25,17 @@ add-words-requires : tie.Need-add-words-requires
 add-words-requires c κs = search needs
 
 returns : tie.Need-returns
-unfolding blockWords
+unfolding blocksOf blockWords
 returns c =
     let s = c .before .before .before .before .before .before .start in
     let t = c .before .before .before .before .rounds in
     let same : length (t .last .0) ≡ length (s .result) = t .ensures .long ∙ sym (s .ensures .long) in
     let added = c .before .add-words .ensures in
-    record {
-      long = ap length added ∙ addWords-length (t .last .0) (s .result) same ∙ t .ensures .long;
-      at = λ l h.
-          ap (lane l 16) added ∙ lane-add l 0 16 (t .last .0) (s .result) same
-          ∙ ap₂ addWords (t .ensures .at l h ∙ ap (doubleRounds 10) (s .ensures .at l h)) (s .ensures .at l h);
-    }
+    laned-is 16 _ _ (ap length added ∙ addWords-length (t .last .0) (s .result) same ∙ t .ensures .long)
+    (λ l h.
+    ap (lane l 16) added
+    ∙ lane-add l 0 16 (t .last .0) (s .result) same
+    ∙ ap₂ addWords (t .ensures .at l h ∙ ap (doubleRounds 10) (s .ensures .at l h)) (s .ensures .at l h))
 
 pub block-spec : {M : Type 1} → statement M
 block-spec =

@@ -3,7 +3,7 @@ use mathlib.Core.Path.{_≡_, sym}
 use Prim.Native.Nat.{_-_, _≤_}
 use native.Mathlib.Omega.{arith}
 use Rattle.sha256.specs.Four.{schedules}
-use Rattle.sha256.proofs.Progress.{Begun, begun-none, begun-set, begun-take}
+use Rattle.words.proofs.Progress.{Begun, begun-none, begun-set, begun-take}
 use Rattle.sha256.proofs.Lanes.{schedules-length}
 use Rattle.sha256.proofs.four.load.Statement.{statement}
 use Rattle.sha256.proofs.four.load.Tie as tie
