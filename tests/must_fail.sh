@@ -1,0 +1,11 @@
+#!/usr/bin/env bash
+# A must-fail edit is worth something only where a fact no longer holds. A refusal that names a missing `Need-..` shows that the edit
+# changed the code's shape, so that its proof no longer fits whatever the code does.
+set -eu
+cd "$(dirname "$0")/.."
+unfit=$(grep -l 'has no `Need-' target/must-fail/*/*/.log || true)
+if [ -n "$unfit" ]; then
+    echo "must-fail edits that change the code's shape:"
+    echo "$unfit"
+    exit 1
+fi
