@@ -1,7 +1,7 @@
 -- Four messages of 32 bytes side by side. Assumes nothing.
 use mathlib.Core.Path.{_≡_, refl, sym, ap, ap₂, _∙_}
 use mathlib.Core.List.{List, _++_}
-use Prim.Native.Nat.{ℕ, zero, suc, _+_, _-_, _*_, _/_, _%_, _<_, _≤_}
+use Prim.Native.Nat.{ℕ, _+_, _-_, _*_, _/_, _%_, _<_, _≤_}
 use native.Mathlib.Omega.{arith}
 use lib.ListN.{length, getD, drop, length-append, length-drop, List·getD-append}
 use lib.Seq.{getD-take, getD-drop, getD-append-add, length-take-le, take-all}
@@ -11,6 +11,7 @@ use Rattle.sha256.specs.declared.Work.{Work}
 use Rattle.sha256.specs.Sha.{wordAt, padding, constants, padded, initial, nextWord, scheduled, stepped, roundAt, rounds, added, compressed, hashed, workBytes, digestOf}
 use Rattle.sha256.specs.Four.{message, joined, digests, padWords, wordsOf, workOf, schedules, scheduleIn, fourInLanes, roundsInLanes, digestIn}
 use Rattle.sha256.specs.Pieces.{fourRounds}
+use Rattle.words.proofs.Below.{below}
 use Rattle.words.proofs.Progress.{Begun}
 use Rattle.sha256.proofs.Words.{next-cong, word-first, word-next, scheduled-length}
 use Rattle.sha256.proofs.Blocks.{padding-length}
@@ -31,22 +32,11 @@ word-cong s s′ i i′ h =
       ap (λ (j : ℕ). getD s j 0) e ∙ h 0 (omega arith) ∙ ap (λ (j : ℕ). getD s′ j 0) e′,
     )
 
--- what holds of 0 to 7 holds of each number below 8
-eight : (P : ℕ → Type 0) → P 0 → P 1 → P 2 → P 3 → P 4 → P 5 → P 6 → P 7 → (u : ℕ) → u < 8 → P u
-eight P a b c d e f g h zero l = a
-eight P a b c d e f g h (suc zero) l = b
-eight P a b c d e f g h (suc (suc zero)) l = c
-eight P a b c d e f g h (suc (suc (suc zero))) l = d
-eight P a b c d e f g h (suc (suc (suc (suc zero)))) l = e
-eight P a b c d e f g h (suc (suc (suc (suc (suc zero))))) l = f
-eight P a b c d e f g h (suc (suc (suc (suc (suc (suc zero)))))) l = g
-eight P a b c d e f g h (suc (suc (suc (suc (suc (suc (suc zero))))))) l = h
-eight P a b c d e f g h (suc (suc (suc (suc (suc (suc (suc (suc u)))))))) l = absurd (omega arith)
-
 pad-words : (u : ℕ) → u < 8 → wordAt (padding 32) (4 * u) ≡ getD padWords u 0
 unfolding padding padWords
 pad-words =
-    eight (λ (u : ℕ). wordAt (padding 32) (4 * u) ≡ getD padWords u 0) refl refl refl refl refl refl refl refl
+    below (λ (u : ℕ). wordAt (padding 32) (4 * u) ≡ getD padWords u 0) 8
+    ((((((((tt, refl), refl), refl), refl), refl), refl), refl), refl)
 
 module _ (p : List ℕ) (e : length p ≡ 32) where
   block-length : length (padded p) ≡ 64

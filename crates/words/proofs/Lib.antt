@@ -1,3 +1,4 @@
+pub mod Below
 pub mod Xor
 pub mod Lists
 pub mod Progress

@@ -2,15 +2,18 @@
 use mathlib.Core.Path.{_≡_, refl, sym, ap, ap₂, _∙_}
 use mathlib.Core.List.{List, [], _∷_}
 use Prim.Native.Nat.{ℕ, zero, suc, _+_, _-_, _*_, _/_, _%_, _^_, _<_, _≤_}
-use native.Mathlib.Nat.{mod-one, mod-eq-of-lt, zero-lt-suc, pow-suc, not-suc-le-zero, le-of-suc-le-suc}
+use native.Mathlib.Nat.{zero-div, mod-one, mod-eq-of-lt, zero-lt-suc, pow-suc, not-suc-le-zero, le-of-suc-le-suc}
 use native.Mathlib.Decide.{decLt}
 use native.Mathlib.Omega.{arith}
 use lib.Arith.{mod-mul}
-use lib.ListN.{length, getD, drop, List·getD-append}
+use lib.ListN.{length, getD, drop, List·getD-append, List·getD-eq-default}
 use Rattle.words.specs.Bytes.{Bytes, number, bytes, word32, word64, words32, bytesOfWords, part, put}
 use Rattle.words.proofs.Lists.{tabulate-length, tabulate-at, put-before, put-in, xorList-at}
 use Rattle.words.specs.Xor.{xorList}
+use Rattle.words.specs.Bits.{bitOf, bitAt}
+use Rattle.words.proofs.Below.{below}
 use lib.Bits.{bitXor, xor-block}
+use lib.Pow.{field, mod-mod-pow, shr-shr}
 use lib.Seq.{ext-getD, getD-take, getD-drop}
 
 pub bytes-length : (n x : ℕ) → length (bytes n x) ≡ n
@@ -119,6 +122,71 @@ word32-lt s at h = omega (arith, h at, h (at + 1), h (at + 2), h (at + 3))
 pub word64-lt : (s : List ℕ) (at : ℕ) → Bytes s → word64 s at < 2 ^ 64
 word64-lt s at h =
     omega (arith, h at, h (at + 1), h (at + 2), h (at + 3), h (at + 4), h (at + 5), h (at + 6), h (at + 7))
+
+-- ---- the bits of a number are the bits of its bytes
+
+-- a bit below 8 is one of the lowest byte
+low-bit : (x t : ℕ) → t < 8 → bitOf x t ≡ bitOf (x % 2 ^ 8) t
+low-bit x t h =
+    let e : 8 - t + t ≡ 8 = omega arith in
+    let f : 7 - t + 1 ≡ 8 - t = omega arith in
+    sym (mod-mod-pow (x / 2 ^ t) (7 - t) 1)
+    ∙ ap (λ (n : ℕ). x / 2 ^ t % 2 ^ n % 2) f
+    ∙ ap (λ (y : ℕ). y % 2) (sym (field x (8 - t) t) ∙ ap (λ (n : ℕ). x % 2 ^ n / 2 ^ t) e)
+
+pub number-bit : (s : List ℕ) → Bytes s → (t : ℕ) → bitOf (number s) t ≡ bitAt s t
+number-bit [] h t = ap (λ (y : ℕ). y % 2) (zero-div (2 ^ t) ∙ sym (zero-div (2 ^ (t % 8))))
+number-bit (b ∷ s) h t = here (decLt t 8) (number-bit s (λ i. h (suc i)) (t - 8))
+  where
+    here : Dec (t < 8) → bitOf (number s) (t - 8) ≡ bitAt s (t - 8) → bitOf (b + 256 * number s) t ≡ bitAt (b ∷ s) t
+    here (yes l) rest =
+        let low : (b + 256 * number s) % 2 ^ 8 ≡ b = omega (arith, h 0) in
+        let q : t / 8 ≡ 0 = omega arith in
+        let r : t % 8 ≡ t = omega arith in
+        low-bit (b + 256 * number s) t l
+        ∙ ap (λ (y : ℕ). bitOf y t) low
+        ∙ sym (ap₂ (λ (i c : ℕ). bitOf (getD (b ∷ s) i 0) c) q r)
+    here (no l) rest =
+        let e : t ≡ 8 + (t - 8) = omega arith in
+        let high : (b + 256 * number s) / 2 ^ 8 ≡ number s = omega (arith, h 0) in
+        let q : t / 8 ≡ suc ((t - 8) / 8) = omega arith in
+        let r : t % 8 ≡ (t - 8) % 8 = omega arith in
+        ap (λ (n : ℕ). bitOf (b + 256 * number s) n) e
+        ∙ ap (λ (y : ℕ). y % 2) (sym (shr-shr (b + 256 * number s) 8 (t - 8)) ∙ ap (λ (y : ℕ). y / 2 ^ (t - 8)) high)
+        ∙ rest
+        ∙ sym (ap₂ (λ (i c : ℕ). bitOf (getD (b ∷ s) i 0) c) q r)
+
+-- eight bytes from a place on
+abbrev eight : List ℕ → ℕ → List ℕ
+eight s at =
+    getD s at 0
+    ∷ getD s (at + 1) 0
+    ∷ getD s (at + 2) 0
+    ∷ getD s (at + 3) 0
+    ∷ getD s (at + 4) 0
+    ∷ getD s (at + 5) 0
+    ∷ getD s (at + 6) 0
+    ∷ getD s (at + 7) 0
+    ∷ []
+
+-- paper 01, 'Folding and pads': weight 2^t of word m is row 64m + t, which is bit 64m + t of the column
+pub word64-bit : (s : List ℕ) → Bytes s → (at t : ℕ) → t < 64 → bitOf (word64 s at) t ≡ bitAt s (8 * at + t)
+word64-bit s h at t l =
+    let q : at + t / 8 ≡ (8 * at + t) / 8 = omega arith in
+    let r : t % 8 ≡ (8 * at + t) % 8 = omega arith in
+    number-bit (eight s at) (λ i. small i (decLt i 8)) t
+    ∙ ap (λ (y : ℕ). bitOf y (t % 8)) (place (t / 8) (omega arith))
+    ∙ ap₂ (λ (i c : ℕ). bitOf (getD s i 0) c) q r
+  where
+    place : (k : ℕ) → k < 8 → getD (eight s at) k 0 ≡ getD s (at + k) 0
+    place =
+        let e : at ≡ at + 0 = omega arith in
+        below (λ (k : ℕ). getD (eight s at) k 0 ≡ getD s (at + k) 0) 8
+        ((((((((tt, ap (λ (i : ℕ). getD s i 0) e), refl), refl), refl), refl), refl), refl), refl)
+
+    small : (i : ℕ) → Dec (i < 8) → getD (eight s at) i 0 < 256
+    small i (yes k) = rw (place i k) (h (at + i))
+    small i (no k) = rw (List·getD-eq-default (eight s at) 0 {n = i} (omega arith)) (omega arith)
 
 -- ---- the 8-byte numbers of a sum and of a part
 

@@ -1,8 +1,9 @@
 // Byte ranges, little-endian numbers, bits and exclusive or: what every other layer is built on.
 ghost use mathlib.Core.Path.{_≡_};
-ghost use Prim.Native.Nat.{_+_, _*_, _≤_, _<_};
+ghost use mathlib.Core.List.{[], _∷_};
+ghost use Prim.Native.Nat.{_+_, _*_, _^_, _≤_, _<_};
 ghost use lib.ListN.{length, getD};
-ghost use Rattle.words.specs.Bytes.{bytes, word32, word64, words32, bytesOfWords, put};
+ghost use Rattle.words.specs.Bytes.{number, bytes, word32, word64, words32, bytesOfWords, put};
 ghost use Rattle.words.specs.Bits.{bitAt};
 ghost use Rattle.words.specs.Xor.{xorList, xorPart};
 ghost use Rattle.words.specs.Word32.{add32, rotl, rotr};
@@ -42,7 +43,7 @@ pub fn copy_part(dst: &mut [u8], at: usize, src: &[u8])
 
 // Four bytes as a number.
 pub fn join32(b0: u8, b1: u8, b2: u8, b3: u8) -> u32
-    ensures { λ r. ⌜ r ≡ b0 + 256 * (b1 + 256 * (b2 + 256 * (b3 + 256 * 0))) ⌝ }
+    ensures { λ r. ⌜ r ≡ number (b0 ∷ b1 ∷ b2 ∷ b3 ∷ []) ⌝ }
 {
     (b0 as u32) + (b1 as u32) * 0x100 + (b2 as u32) * 0x1_0000 + (b3 as u32) * 0x100_0000
 }
@@ -129,7 +130,7 @@ pub fn bit(s: &[u8], c: usize) -> u8
 
 // A word itself. Of a word read from an array behind a reference nothing is known; of a parameter it is known that it is a word.
 pub fn known(x: u32) -> u32
-    ensures { λ r. ⌜ (r ≡ x) × (r < 4294967296) ⌝ }
+    ensures { λ r. ⌜ (r ≡ x) × (r < 2 ^ 32) ⌝ }
 {
     x
 }
