@@ -26,3 +26,8 @@ xorList l m = xorEach l (λ i. getD m i 0)
 unfoldable pub scale : ℕ → List ℕ → List ℕ
 scale d [] = []
 scale d (x ∷ xs) = d * x ∷ scale d xs
+
+-- the ⊕ of f i over the numbers i below n
+unfoldable pub sumTo : ℕ → (ℕ → ℕ) → ℕ
+sumTo zero f = 0
+sumTo (suc n) f = sumTo n f ⊕ f n

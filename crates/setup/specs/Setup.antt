@@ -1,0 +1,100 @@
+-- Both setups of paper 01, 'Trees and streams': the receiver's message and the sender's siblings, for any inputs. Assumes nothing.
+use mathlib.Core.Path.{_≡_}
+use mathlib.Core.List.{List, [], _++_}
+use Prim.Native.Nat.{ℕ, zero, suc, _+_, _-_, _*_, _/_}
+use lib.Dec.{eqb}
+use lib.ListN.{length, getD}
+use Rattle.words.specs.Bytes.{part, tabulate, concat}
+use Rattle.words.specs.Bits.{bitAt, ofBits}
+use Rattle.words.specs.Xor.{_⊕_, xorList, sumTo}
+use Rattle.tree.specs.Tree.{childOf, sumBelow, totalOf}
+use Rattle.tree.specs.Path.{pathBit, siblingNode}
+use Rattle.answer.specs.declared.Answer.{Answer}
+use Rattle.answer.specs.declared.Answer.the-variants.{Done, Width, Length}
+use Rattle.answer.specs.Answer.{unless, both, widthAllowed, whenDone}
+
+-- 'Words and layouts': 128 columns, each with a base transfer of its own; n = 128/k trees
+abbrev pub columns : ℕ
+columns = 128
+
+abbrev pub treesOf : ℕ → ℕ
+treesOf k = columns / k
+
+-- the roots stand in tree order, 32 bytes each
+abbrev pub rootOf : List ℕ → ℕ → List ℕ
+rootOf roots i = part (i * 32) 32 roots
+
+-- D_i (delta_i) is the k-bit number of tree i; its bit b is bit i × k + b of D
+abbrev pub deltaOf : ℕ → List ℕ → ℕ → ℕ
+deltaOf k delta i = ofBits k (λ b. bitAt delta (i * k + b))
+
+-- tree i's part of a range that has so many bytes for each base transfer: those of transfers i × k to i × k + k - 1, one for each level
+abbrev pub treePart : ℕ → ℕ → ℕ → List ℕ → List ℕ
+treePart k size i s = part (i * (size * k)) (size * k) s
+
+-- ---- the receiver
+
+-- the setup message of a tree holds, for each level's base transfer, two masked totals: for side 0, then 1, the total ⊕ that base pad
+unfoldable pub treeMessage : ℕ → List ℕ → List ℕ → List ℕ
+treeMessage k root pads = concat k (λ l. concat 2 (λ s. xorList (totalOf root l s) (part (64 * l + 32 * s) 32 pads)))
+
+unfoldable pub messageOf : ℕ → List ℕ → List ℕ → List ℕ
+messageOf k roots pads = concat (treesOf k) (λ i. treeMessage k (rootOf roots i) (treePart k 64 i pads))
+
+-- ---- the sender, from any message and any pads
+
+-- the sender unmasks one total per level, that of the side which the path doesn't take, takes off the children it can make of the
+-- nodes found at the levels above, and so gets one node
+unfoldable pub nextNode : ℕ → ℕ → List ℕ → List ℕ → ℕ → List ℕ → List ℕ
+nextNode k d message pads level found =
+    let side : ℕ = 1 - pathBit k d level in
+    tabulate 32 (λ j.
+    getD message (64 * level + 32 * side + j) 0
+    ⊕ getD pads (32 * level + j) 0
+    ⊕ sumTo level (λ i. sumBelow (level - 1 - i) (part (32 * i) 32 found) 0 (λ y m. getD (childOf side m) j 0)))
+
+-- the nodes found at the first levels of a tree, one after the other
+unfoldable pub nodesFound : ℕ → ℕ → List ℕ → List ℕ → ℕ → List ℕ
+nodesFound k d message pads zero = []
+nodesFound k d message pads (suc level) =
+    nodesFound k d message pads level ++ nextNode k d message pads level (nodesFound k d message pads level)
+
+-- the kept table (siblings) has these nodes in base-transfer order
+unfoldable pub siblingsOf : ℕ → List ℕ → List ℕ → List ℕ → List ℕ
+siblingsOf k delta pads message =
+    concat (treesOf k) (λ i. nodesFound k (deltaOf k delta i) (treePart k 64 i message) (treePart k 32 i pads) k)
+
+-- ---- what an honest setup has
+
+-- the sender has the pad numbered 1 minus the path bit
+unfoldable pub senderPads : ℕ → List ℕ → List ℕ → List ℕ
+senderPads k delta pads =
+    concat (treesOf k) (λ i. concat k (λ l. part (64 * l + 32 * (1 - pathBit k (deltaOf k delta i) l)) 32 (treePart k 64 i pads)))
+
+-- the nodes beside the paths of the receiver's trees, in base-transfer order
+unfoldable pub besidePaths : ℕ → List ℕ → List ℕ → List ℕ
+besidePaths k delta roots = concat (treesOf k) (λ i. concat k (siblingNode k (rootOf roots i) (deltaOf k delta i)))
+
+-- ---- the steps' promises: 'Steps and their turning away'
+
+-- chooser setup: roots 32 × n bytes, base pads 8,192, message out 8,192. 1, 5
+unfoldable pub receiverSetupAnswer : ℕ → ℕ → ℕ → ℕ → Answer
+receiverSetupAnswer k roots pads message =
+    unless (widthAllowed k) Width
+    (unless (both (eqb roots (32 * treesOf k)) (both (eqb pads 8192) (eqb message 8192))) Length
+    Done)
+
+pub record ReceiverSetup (width : ℕ) (roots pads message : List ℕ) (answer : Answer) (message′ : List ℕ) : Type 0 where
+  pub answered : answer ≡ receiverSetupAnswer width (length roots) (length pads) (length message)
+  pub written : message′ ≡ whenDone answer (messageOf width roots pads) message
+
+-- keeper setup: D 16, base pads 4,096, message 8,192, kept table out 4,096. 1, 5
+unfoldable pub senderSetupAnswer : ℕ → ℕ → ℕ → ℕ → ℕ → Answer
+senderSetupAnswer k delta pads message siblings =
+    unless (widthAllowed k) Width
+    (unless (both (eqb delta 16) (both (eqb pads 4096) (both (eqb message 8192) (eqb siblings 4096)))) Length
+    Done)
+
+pub record SenderSetup (width : ℕ) (delta pads message siblings : List ℕ) (answer : Answer) (siblings′ : List ℕ) : Type 0 where
+  pub answered : answer ≡ senderSetupAnswer width (length delta) (length pads) (length message) (length siblings)
+  pub written : siblings′ ≡ whenDone answer (siblingsOf width delta pads message) siblings

@@ -1,0 +1,4 @@
+pub mod Tree
+pub mod Path
+pub mod Columns
+pub mod Lanes

@@ -1,0 +1,1 @@
+// Trees: what a walk makes and adds up.
