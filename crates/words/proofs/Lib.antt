@@ -1,7 +1,9 @@
 pub mod Below
 pub mod Xor
 pub mod Lists
+pub mod Concat
 pub mod Progress
 pub mod Numbers
 pub mod Lanes
+pub mod LaneBytes
 pub mod Word32

@@ -1,9 +1,10 @@
 // Byte ranges, little-endian numbers, bits and exclusive or: what every other layer is built on.
 ghost use mathlib.Core.Path.{_≡_};
 ghost use mathlib.Core.List.{[], _∷_};
-ghost use Prim.Native.Nat.{_+_, _*_, _^_, _≤_, _<_};
+ghost use Prim.Native.Nat.{ℕ, _+_, _*_, _/_, _%_, _^_, _≤_, _<_};
 ghost use lib.ListN.{length, getD};
-ghost use Rattle.words.specs.Bytes.{number, bytes, word32, word64, words32, bytesOfWords, put};
+ghost use Rattle.words.specs.Bytes.{number, bytes, word32, word64, words32, bytesOfWords, part, put, concat};
+ghost use Rattle.words.specs.Lanes.{laneBytes};
 ghost use Rattle.words.specs.Bits.{bitAt};
 ghost use Rattle.words.specs.Xor.{xorList, xorPart};
 ghost use Rattle.words.specs.Word32.{add32, rotl, rotr};
@@ -156,6 +157,49 @@ pub fn load_words(dst: &mut [u32], s: &[u8])
     while i < dst.len() {
         dst[i] = load32(s, 4 * i);
         i += 1;
+    }
+}
+
+// Fills the four lanes of t from the four quarters of s.
+pub fn load_lanes(t: &mut [u32], s: &[u8])
+    requires { ⌜ (length (now t) % 4 ≡ 0) × (length (now s) ≡ 4 * length (now t)) ⌝ }
+    ensures { λ _. ⌜ ((l : ℕ) → l < 4 → laneBytes l (length (now (t .entry)) / 4) (now (t .exit)) ≡ part (l * length (now (t .entry))) (length (now (t .entry))) (now (s .entry))) ⌝ }
+{
+    let n = t.len();
+    let mut i = 0;
+    while i < n {
+        let l = i % 4;
+        t[i] = load32(s, l * n + (i - l));
+        i += 1;
+    }
+}
+
+// Fills out with lane l of t, 4 bytes a word.
+pub fn store_lane(out: &mut [u8], t: &[u32], l: usize)
+    requires { ⌜ (l < 4) × (length (now out) % 4 ≡ 0) × (length (now out) ≤ length (now t)) ⌝ }
+    ensures { λ _. ⌜ now (out .exit) ≡ laneBytes l (length (now (out .entry)) / 4) (now (t .entry)) ⌝ }
+{
+    let n = out.len();
+    let mut i = 0;
+    while i < n {
+        store32(out, i, t[i + l]);
+        i += 4;
+    }
+}
+
+// Fills the four quarters of out from the four lanes of t.
+pub fn store_lanes(out: &mut [u8], t: &[u32])
+    requires { ⌜ (length (now t) % 4 ≡ 0) × (length (now out) ≡ 4 * length (now t)) ⌝ }
+    ensures { λ _. ⌜ now (out .exit) ≡ concat 4 (λ l. laneBytes l (length (now (t .entry)) / 4) (now (t .entry))) ⌝ }
+{
+    let n = t.len();
+    let mut l = 0;
+    let mut at = 0;
+    while l < 4 {
+        let end = at + n;
+        store_lane(&mut out[at..end], t, l);
+        at = end;
+        l += 1;
     }
 }
 

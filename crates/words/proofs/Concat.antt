@@ -1,0 +1,90 @@
+-- Lists one after the other. Assumes nothing.
+use mathlib.Core.Path.{_≡_, refl, sym, ap, ap₂, _∙_}
+use mathlib.Core.List.{List, _++_, append-nil, append-assoc}
+use Prim.Native.Nat.{ℕ, zero, suc, _+_, _-_, _*_, _≤_, _<_}
+use native.Mathlib.Nat.{zero-mul, suc-mul, not-suc-le-zero, add-zero, add-suc, mul-le-mul-right}
+use native.Mathlib.Omega.{arith}
+use native.Mathlib.Decide.{ℕ-discrete}
+use native.Mathlib.Numerals.{add-one}
+use lib.ListN.{length, getD, take, drop, length-append, length-drop}
+use lib.Seq.{getD-take, getD-drop, take-at, take-all, drop-at, take-append-le, drop-append-le, length-take-le}
+use borrow.Rule.Slice.PartMut.{putMid, postOf, same-len-mid, mid-len}
+use Rattle.words.specs.Bytes.{part, concat}
+
+-- places of lists of m elements, one after the other
+pub next-place : (i m : ℕ) → i * m + m ≡ (i + 1) * m
+next-place i m = sym (ap (λ (j : ℕ). j * m) (add-one i) ∙ suc-mul i m)
+
+pub place-fits : (i n m : ℕ) → i < n → i * m + m ≤ n * m
+place-fits i n m h = rw (sym (suc-mul i m)) (mul-le-mul-right m h)
+
+-- element j of the part from a on
+pub part-at : (a n : ℕ) (s : List ℕ) (j : ℕ) → j < n → getD (part a n s) j 0 ≡ getD s (a + j) 0
+part-at a n s j h = getD-take n (drop a s) j 0 h ∙ getD-drop a s j 0
+
+pub part-length : (a n : ℕ) (s : List ℕ) → a + n ≤ length s → length (part a n s) ≡ n
+part-length a n s h = length-take-le n (drop a s) (omega (arith, length-drop a s))
+
+pub concat-same : (n : ℕ) (f g : ℕ → List ℕ) → ((i : ℕ) → i < n → f i ≡ g i) → concat n f ≡ concat n g
+unfolding concat
+concat-same zero f g e = refl
+concat-same (suc n) f g e = ap₂ (λ (x y : List ℕ). x ++ y) (concat-same n f g (λ i h. e i (omega arith))) (e n (omega arith))
+
+-- the first a lists, and the b lists after them
+pub concat-add : (a b : ℕ) (f : ℕ → List ℕ) → concat (a + b) f ≡ concat a f ++ concat b (λ i. f (a + i))
+unfolding concat
+concat-add a zero f = ap (λ (n : ℕ). concat n f) (add-zero a) ∙ sym (append-nil (concat a f))
+concat-add a (suc b) f =
+    ap (λ (n : ℕ). concat n f) (add-suc a b)
+    ∙ ap (λ (x : List ℕ). x ++ f (a + b)) (concat-add a b f)
+    ∙ append-assoc (concat a f) (concat b (λ i. f (a + i))) (f (a + b))
+
+-- a range that a loop fills from the front by whole lists: a part of it was lent and comes back with c more lists after the first i
+pub concat-grow : (f : ℕ → List ℕ) (i c a e : ℕ) (xs ys : List ℕ) → ys ≡ concat c (λ j. f (i + j)) → length (concat c (λ j. f (i + j))) ≡ e - a
+    → a ≤ e → e ≤ length xs → take a xs ≡ concat i f
+    → (length (putMid a (e - a) xs ys) ≡ length xs) × (take e (putMid a (e - a) xs ys) ≡ concat (i + c) f)
+concat-grow f i c a e xs ys more size le fits before =
+    let head : length (take a xs) ≡ a = length-take-le a xs (omega arith) in
+    let long : length ys ≡ e - a = ap length more ∙ size in (
+      same-len-mid a (e - a) xs ys (long ∙ sym (mid-len a e xs fits)),
+      ap (take e) (sym (append-assoc (take a xs) ys (postOf a (e - a) xs)))
+          ∙ take-at (take a xs ++ ys) (postOf a (e - a) xs) e (length-append (take a xs) ys ∙ omega (arith, head))
+          ∙ ap₂ (λ (x y : List ℕ). x ++ y) before more
+          ∙ sym (concat-add i c f),
+    )
+
+-- a single list
+pub concat-one : (f : ℕ → List ℕ) (i : ℕ) → f i ≡ concat 1 (λ j. f (i + j))
+unfolding concat
+concat-one f i = ap f (sym (add-zero i))
+
+-- ---- lists of one length
+
+module _ (f : ℕ → List ℕ) (m : ℕ) (each : (i : ℕ) → length (f i) ≡ m) where
+  pub concat-length : (n : ℕ) → length (concat n f) ≡ n * m
+  unfolding concat
+  concat-length zero = sym (zero-mul m)
+  concat-length (suc n) =
+      length-append (concat n f) (f n) ∙ ap₂ (λ (x y : ℕ). x + y) (concat-length n) (each n) ∙ sym (suc-mul n m)
+
+  -- the part of each list
+  pub concat-part : (n i : ℕ) → i < n → part (i * m) m (concat n f) ≡ f i
+  unfolding concat
+  concat-part zero i h = absurd (not-suc-le-zero h)
+  concat-part (suc n) i h = here (ℕ-discrete i n) (concat-part n i)
+    where
+      here : Dec (i ≡ n) → (i < n → part (i * m) m (concat n f) ≡ f i) → part (i * m) m (concat n f ++ f n) ≡ f i
+      here (yes e) ih =
+          ap (take m) (drop-at (concat n f) (f n) (i * m) (concat-length n ∙ ap (λ (x : ℕ). x * m) (sym e)))
+          ∙ take-all m (f n) (omega (arith, each n))
+          ∙ ap f (sym e)
+      here (no ne) ih =
+          let room : i * m + m ≤ n * m = place-fits i n m (omega arith) in
+          ap (take m) (drop-append-le (i * m) (concat n f) (f n) (omega (arith, concat-length n)))
+          ∙ take-append-le m (drop (i * m) (concat n f)) (f n)
+          (omega (arith, concat-length n, length-drop (i * m) (concat n f)))
+          ∙ ih (omega arith)
+
+  pub concat-at : (n i j : ℕ) → i < n → j < m → getD (concat n f) (i * m + j) 0 ≡ getD (f i) j 0
+  concat-at n i j h hj =
+      sym (part-at (i * m) m (concat n f) j hj) ∙ ap (λ (s : List ℕ). getD s j 0) (concat-part n i h)
