@@ -1,5 +1,6 @@
 pub mod Below
 pub mod Xor
+pub mod Sums
 pub mod Lists
 pub mod Concat
 pub mod Progress
