@@ -1,0 +1,73 @@
+-- Laws of sums (⊕) over the nodes of one depth, and of a node's children. Assumes nothing.
+use mathlib.Core.Path.{_≡_, refl, sym, ap, ap₂, _∙_}
+use mathlib.Core.List.{List}
+use Prim.Native.Nat.{ℕ, zero, suc, _+_, _*_, _/_, _^_, _<_}
+use native.Mathlib.Nat.{pow-suc, div-div-eq-div-mul, div-one}
+use native.Mathlib.Omega.{arith}
+use lib.Bits.{bitXor}
+use lib.ListN.{length, getD, drop, length-drop}
+use lib.Seq.{getD-take, getD-drop, length-take-le}
+use Rattle.words.proofs.Xor.{xor-swap, scale-xor}
+use Rattle.chacha20.proofs.Laws.{blockOf-length}
+use Rattle.chacha20.specs.Nonce.{nonceOf}
+use Rattle.tree.specs.Tree.{childrenOf, childOf, sumBelow}
+
+-- ---- a node's children
+
+pub children-length : (m : List ℕ) → length (childrenOf m) ≡ 64
+unfolding childrenOf
+children-length m = blockOf-length m 0 (nonceOf 0 0)
+
+pub child-length : (s : ℕ) (m : List ℕ) → s < 2 → length (childOf s m) ≡ 32
+unfolding childOf
+child-length s m h =
+    length-take-le 32 (drop (32 * s) (childrenOf m)) (omega (arith, length-drop (32 * s) (childrenOf m), children-length m))
+
+pub child-byte : (s : ℕ) (m : List ℕ) (j : ℕ) → j < 32 → getD (childOf s m) j 0 ≡ getD (childrenOf m) (32 * s + j) 0
+unfolding childOf
+child-byte s m j h = getD-take 32 (drop (32 * s) (childrenOf m)) j 0 h ∙ getD-drop (32 * s) (childrenOf m) j 0
+
+-- ---- sums over the nodes of one depth
+
+-- half of a number's first digits
+pub half : (l z : ℕ) → z / 2 ^ suc l ≡ z / 2 ^ l / 2
+half l z = ap (λ (n : ℕ). z / n) (pow-suc 2 l) ∙ sym (div-div-eq-div-mul z (2 ^ l) 2)
+
+-- two sums are equal if they add the same at each node of that depth: those are numbered z with z / 2 ^ l ≡ y
+pub sum-same : (l : ℕ) (n : List ℕ) (y : ℕ) (g h : ℕ → List ℕ → ℕ)
+    → ((z : ℕ) (m : List ℕ) → z / 2 ^ l ≡ y → g z m ≡ h z m) → sumBelow l n y g ≡ sumBelow l n y h
+unfolding sumBelow
+sum-same zero n y g h e = e y n (div-one y)
+sum-same (suc l) n y g h e =
+    ap₂ bitXor
+    (sum-same l (childOf 0 n) (2 * y) g h (λ z m q. e z m (half l z ∙ omega arith)))
+    (sum-same l (childOf 1 n) (2 * y + 1) g h (λ z m q. e z m (half l z ∙ omega arith)))
+
+pub sum-xor : (l : ℕ) (n : List ℕ) (y : ℕ) (g h : ℕ → List ℕ → ℕ)
+    → sumBelow l n y (λ z m. bitXor (g z m) (h z m)) ≡ bitXor (sumBelow l n y g) (sumBelow l n y h)
+unfolding sumBelow
+sum-xor zero n y g h = refl
+sum-xor (suc l) n y g h =
+    ap₂ bitXor (sum-xor l (childOf 0 n) (2 * y) g h) (sum-xor l (childOf 1 n) (2 * y + 1) g h)
+    ∙ xor-swap (sumBelow l (childOf 0 n) (2 * y) g) (sumBelow l (childOf 0 n) (2 * y) h)
+    (sumBelow l (childOf 1 n) (2 * y + 1) g) (sumBelow l (childOf 1 n) (2 * y + 1) h)
+
+-- what goes through one ⊕ goes through a sum
+pub sum-map : (h : ℕ → ℕ) → ((a b : ℕ) → h (bitXor a b) ≡ bitXor (h a) (h b)) → (l : ℕ) (n : List ℕ) (y : ℕ) (g : ℕ → List ℕ → ℕ)
+    → sumBelow l n y (λ z m. h (g z m)) ≡ h (sumBelow l n y g)
+unfolding sumBelow
+sum-map h e zero n y g = refl
+sum-map h e (suc l) n y g =
+    ap₂ bitXor (sum-map h e l (childOf 0 n) (2 * y) g) (sum-map h e l (childOf 1 n) (2 * y + 1) g)
+    ∙ sym (e (sumBelow l (childOf 0 n) (2 * y) g) (sumBelow l (childOf 1 n) (2 * y + 1) g))
+
+-- a bit times a sum
+pub sum-times : (l : ℕ) (n : List ℕ) (y p : ℕ) (g : ℕ → List ℕ → ℕ) → p < 2 → sumBelow l n y (λ z m. p * g z m) ≡ p * sumBelow l n y g
+sum-times l n y p g h = sum-map (λ x. p * x) (λ a b. scale-xor p a b h) l n y g
+
+-- where g goes by the node alone, the nodes' numbers are no matter
+pub sum-number : (l : ℕ) (n : List ℕ) (y w : ℕ) (g : List ℕ → ℕ) → sumBelow l n y (λ z m. g m) ≡ sumBelow l n w (λ z m. g m)
+unfolding sumBelow
+sum-number zero n y w g = refl
+sum-number (suc l) n y w g =
+    ap₂ bitXor (sum-number l (childOf 0 n) (2 * y) (2 * w) g) (sum-number l (childOf 1 n) (2 * y + 1) (2 * w + 1) g)
