@@ -1,2 +1,4 @@
 -- The laws that other crates cite.
 pub mod Sums
+pub mod Path
+pub mod Columns
