@@ -2,7 +2,7 @@
 -- the siblings. Assumes nothing.
 use mathlib.Core.Path.{_≡_, sym, ap, _∙_}
 use mathlib.Core.List.{List}
-use Prim.Native.Nat.{ℕ, _-_, _*_, _/_, _%_, _^_, _<_}
+use Prim.Native.Nat.{ℕ, _-_, _*_, _%_, _^_, _<_}
 use native.Mathlib.Nat.{zero-mul, one-mul, zero-div}
 use native.Mathlib.Decide.{ℕ-discrete}
 use lib.Bits.{bitXor, xor-self}

@@ -2,3 +2,4 @@
 pub mod Sums
 pub mod Path
 pub mod Columns
+pub mod Lanes

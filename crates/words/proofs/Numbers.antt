@@ -12,7 +12,7 @@ use Rattle.words.proofs.Lists.{tabulate-length, tabulate-at, put-before
 use Rattle.words.specs.Xor.{xorList}
 use Rattle.words.specs.Bits.{bitOf, bitAt}
 use Rattle.words.proofs.Below.{below}
-use lib.Bits.{bitXor, xor-block}
+use lib.Bits.{bitXor, xor-block, xor-mod, xor-shr}
 use lib.Pow.{field, mod-mod-pow, shr-shr}
 use lib.Seq.{ext-getD, getD-take, getD-drop}
 
@@ -43,6 +43,12 @@ bytes-number (b ∷ s) h =
     let low : (b + 256 * number s) % 256 ≡ b = omega (arith, h 0) in
     let high : (b + 256 * number s) / 256 ≡ number s = omega (arith, h 0) in
     ap₂ _∷_ low (ap (bytes (length s)) high ∙ bytes-number s (λ i. h (suc i)))
+
+-- each byte of a sum (⊕) is the sum of the bytes
+pub bytes-xor : (n x y b : ℕ) → getD (bytes n (bitXor x y)) b 0 ≡ bitXor (getD (bytes n x) b 0) (getD (bytes n y) b 0)
+bytes-xor zero x y b = refl
+bytes-xor (suc n) x y zero = xor-mod x y 8
+bytes-xor (suc n) x y (suc b) = ap (λ (z : ℕ). getD (bytes n z) b 0) (xor-shr x y 8) ∙ bytes-xor n (x / 256) (y / 256) b
 
 pub number-lt : (s : List ℕ) → Bytes s → number s < 256 ^ length s
 number-lt [] h = zero-lt-suc 0

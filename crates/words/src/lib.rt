@@ -21,6 +21,18 @@ pub fn xor_into(dst: &mut [u8], src: &[u8])
     }
 }
 
+// The same, word by word.
+pub fn xor_words(dst: &mut [u32], src: &[u32])
+    requires { ⌜ length (now dst) ≤ length (now src) ⌝ }
+    ensures { λ _. ⌜ now (dst .exit) ≡ xorList (now (dst .entry)) (now (src .entry)) ⌝ }
+{
+    let mut i = 0;
+    while i < dst.len() {
+        dst[i] = dst[i] ^ src[i];
+        i += 1;
+    }
+}
+
 // Adds src to the bytes of dst from a place on.
 pub fn xor_part(dst: &mut [u8], at: usize, src: &[u8])
     requires { ⌜ at + length (now src) ≤ length (now dst) ⌝ }
