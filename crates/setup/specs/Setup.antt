@@ -43,26 +43,27 @@ messageOf k roots pads = concat (treesOf k) (λ i. treeMessage k (rootOf roots i
 
 -- ---- the sender, from any message and any pads
 
--- the sender unmasks one total per level, that of the side which the path doesn't take, takes off the children it can make of the
--- nodes found at the levels above, and so gets one node
-unfoldable pub nextNode : ℕ → ℕ → List ℕ → List ℕ → ℕ → List ℕ → List ℕ
-nextNode k d message pads level found =
-    let side : ℕ = 1 - pathBit k d level in
+-- the sender unmasks one total per level: that of the side which the path doesn't take
+unfoldable pub unmasked : ℕ → ℕ → List ℕ → List ℕ → List ℕ
+unmasked k d message pads = concat k (λ l. xorList (part (64 * l + 32 * (1 - pathBit k d l)) 32 message) (part (32 * l) 32 pads))
+
+-- takes off the children of that side it can make, of the nodes found at the levels above, and so gets one node
+unfoldable pub nextNode : ℕ → ℕ → List ℕ → List ℕ → ℕ → List ℕ
+nextNode k d totals found level =
     tabulate 32 (λ j.
-    getD message (64 * level + 32 * side + j) 0
-    ⊕ getD pads (32 * level + j) 0
-    ⊕ sumTo level (λ i. sumBelow (level - 1 - i) (part (32 * i) 32 found) 0 (λ y m. getD (childOf side m) j 0)))
+    getD totals (32 * level + j) 0
+    ⊕ sumTo level (λ i. sumBelow (level - 1 - i) (part (32 * i) 32 found) 0 (λ y m. getD (childOf (1 - pathBit k d level) m) j 0)))
 
 -- the nodes found at the first levels of a tree, one after the other
-unfoldable pub nodesFound : ℕ → ℕ → List ℕ → List ℕ → ℕ → List ℕ
-nodesFound k d message pads zero = []
-nodesFound k d message pads (suc level) =
-    nodesFound k d message pads level ++ nextNode k d message pads level (nodesFound k d message pads level)
+unfoldable pub nodesFound : ℕ → ℕ → List ℕ → ℕ → List ℕ
+nodesFound k d totals zero = []
+nodesFound k d totals (suc level) = nodesFound k d totals level ++ nextNode k d totals (nodesFound k d totals level) level
 
 -- the kept table (siblings) has these nodes in base-transfer order
 unfoldable pub siblingsOf : ℕ → List ℕ → List ℕ → List ℕ → List ℕ
 siblingsOf k delta pads message =
-    concat (treesOf k) (λ i. nodesFound k (deltaOf k delta i) (treePart k 64 i message) (treePart k 32 i pads) k)
+    concat (treesOf k) (λ i.
+    nodesFound k (deltaOf k delta i) (unmasked k (deltaOf k delta i) (treePart k 64 i message) (treePart k 32 i pads)) k)
 
 -- ---- what an honest setup has
 
