@@ -45,7 +45,8 @@ messageOf k roots pads = concat (treesOf k) (λ i. treeMessage k (rootOf roots i
 
 -- the sender unmasks one total per level: that of the side which the path doesn't take
 unfoldable pub unmasked : ℕ → ℕ → List ℕ → List ℕ → List ℕ
-unmasked k d message pads = concat k (λ l. xorList (part (64 * l + 32 * (1 - pathBit k d l)) 32 message) (part (32 * l) 32 pads))
+unmasked k d message pads =
+    concat k (λ l. tabulate 32 (λ j. getD message (64 * l + 32 * (1 - pathBit k d l) + j) 0 ⊕ getD pads (32 * l + j) 0))
 
 -- takes off the children of that side it can make, of the nodes found at the levels above, and so gets one node
 unfoldable pub nextNode : ℕ → ℕ → List ℕ → List ℕ → ℕ → List ℕ

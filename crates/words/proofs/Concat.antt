@@ -60,31 +60,35 @@ concat-one f i = ap f (sym (add-zero i))
 
 -- ---- lists of one length
 
-module _ (f : ℕ → List ℕ) (m : ℕ) (each : (i : ℕ) → length (f i) ≡ m) where
-  pub concat-length : (n : ℕ) → length (concat n f) ≡ n * m
-  unfolding concat
-  concat-length zero = sym (zero-mul m)
-  concat-length (suc n) =
-      length-append (concat n f) (f n) ∙ ap₂ (λ (x y : ℕ). x + y) (concat-length n) (each n) ∙ sym (suc-mul n m)
+pub concat-length : (f : ℕ → List ℕ) (m n : ℕ) → ((i : ℕ) → i < n → length (f i) ≡ m) → length (concat n f) ≡ n * m
+unfolding concat
+concat-length f m zero each = sym (zero-mul m)
+concat-length f m (suc n) each =
+    length-append (concat n f) (f n)
+    ∙ ap₂ (λ (x y : ℕ). x + y) (concat-length f m n (λ i h. each i (omega arith))) (each n (omega arith))
+    ∙ sym (suc-mul n m)
 
-  -- the part of each list
-  pub concat-part : (n i : ℕ) → i < n → part (i * m) m (concat n f) ≡ f i
-  unfolding concat
-  concat-part zero i h = absurd (not-suc-le-zero h)
-  concat-part (suc n) i h = here (ℕ-discrete i n) (concat-part n i)
-    where
-      here : Dec (i ≡ n) → (i < n → part (i * m) m (concat n f) ≡ f i) → part (i * m) m (concat n f ++ f n) ≡ f i
-      here (yes e) ih =
-          ap (take m) (drop-at (concat n f) (f n) (i * m) (concat-length n ∙ ap (λ (x : ℕ). x * m) (sym e)))
-          ∙ take-all m (f n) (omega (arith, each n))
-          ∙ ap f (sym e)
-      here (no ne) ih =
-          let room : i * m + m ≤ n * m = place-fits i n m (omega arith) in
-          ap (take m) (drop-append-le (i * m) (concat n f) (f n) (omega (arith, concat-length n)))
-          ∙ take-append-le m (drop (i * m) (concat n f)) (f n)
-          (omega (arith, concat-length n, length-drop (i * m) (concat n f)))
-          ∙ ih (omega arith)
+-- the part of each list
+pub concat-part : (f : ℕ → List ℕ) (m n : ℕ) → ((i : ℕ) → i < n → length (f i) ≡ m) → (i : ℕ) → i < n → part (i * m) m (concat n f) ≡ f i
+unfolding concat
+concat-part f m zero each i h = absurd (not-suc-le-zero h)
+concat-part f m (suc n) each i h = here (ℕ-discrete i n) (concat-part f m n (λ i h. each i (omega arith)) i)
+  where
+    long : length (concat n f) ≡ n * m
+    long = concat-length f m n (λ i h. each i (omega arith))
 
-  pub concat-at : (n i j : ℕ) → i < n → j < m → getD (concat n f) (i * m + j) 0 ≡ getD (f i) j 0
-  concat-at n i j h hj =
-      sym (part-at (i * m) m (concat n f) j hj) ∙ ap (λ (s : List ℕ). getD s j 0) (concat-part n i h)
+    here : Dec (i ≡ n) → (i < n → part (i * m) m (concat n f) ≡ f i) → part (i * m) m (concat n f ++ f n) ≡ f i
+    here (yes e) ih =
+        ap (take m) (drop-at (concat n f) (f n) (i * m) (long ∙ ap (λ (x : ℕ). x * m) (sym e)))
+        ∙ take-all m (f n) (omega (arith, each n (omega arith)))
+        ∙ ap f (sym e)
+    here (no ne) ih =
+        let room : i * m + m ≤ n * m = place-fits i n m (omega arith) in
+        ap (take m) (drop-append-le (i * m) (concat n f) (f n) (omega (arith, long)))
+        ∙ take-append-le m (drop (i * m) (concat n f)) (f n) (omega (arith, long, length-drop (i * m) (concat n f)))
+        ∙ ih (omega arith)
+
+pub concat-at : (f : ℕ → List ℕ) (m n : ℕ) → ((i : ℕ) → i < n → length (f i) ≡ m) → (i j : ℕ) → i < n → j < m
+    → getD (concat n f) (i * m + j) 0 ≡ getD (f i) j 0
+concat-at f m n each i j h hj =
+    sym (part-at (i * m) m (concat n f) j hj) ∙ ap (λ (s : List ℕ). getD s j 0) (concat-part f m n each i h)
