@@ -43,35 +43,42 @@ messageOf k roots pads = concat (treesOf k) (λ i. treeMessage k (rootOf roots i
 
 -- ---- the sender, from any message and any pads
 
--- the sender unmasks one total per level: that of the side which the path doesn't take
-unfoldable pub unmasked : ℕ → ℕ → List ℕ → List ℕ → List ℕ
-unmasked k d message pads =
-    concat k (λ l. tabulate 32 (λ j. getD message (64 * l + 32 * (1 - pathBit k d l) + j) 0 ⊕ getD pads (32 * l + j) 0))
+-- the side whose total the sender can unmask at a level, and the number of the pad that it has there: 1 minus the path bit
+abbrev pub sideOf : ℕ → ℕ → ℕ → ℕ
+sideOf k d level = 1 - pathBit k d level
+
+-- the sender unmasks one total per level, of a tree of k levels
+unfoldable pub unmasked : ℕ → (ℕ → ℕ) → List ℕ → List ℕ → List ℕ
+unmasked k side message pads =
+    concat k (λ l. tabulate 32 (λ j. getD message (64 * l + 32 * side l + j) 0 ⊕ getD pads (32 * l + j) 0))
 
 -- takes off the children of that side it can make, of the nodes found at the levels above, and so gets one node
-unfoldable pub nextNode : ℕ → ℕ → List ℕ → List ℕ → ℕ → List ℕ
-nextNode k d totals found level =
+unfoldable pub nextNode : (ℕ → ℕ) → List ℕ → List ℕ → ℕ → List ℕ
+nextNode side totals found level =
     tabulate 32 (λ j.
     getD totals (32 * level + j) 0
-    ⊕ sumTo level (λ i. sumBelow (level - 1 - i) (part (32 * i) 32 found) 0 (λ y m. getD (childOf (1 - pathBit k d level) m) j 0)))
+    ⊕ sumTo level (λ i. sumBelow (level - 1 - i) (part (32 * i) 32 found) 0 (λ y m. getD (childOf (side level) m) j 0)))
 
 -- the nodes found at the first levels of a tree, one after the other
-unfoldable pub nodesFound : ℕ → ℕ → List ℕ → ℕ → List ℕ
-nodesFound k d totals zero = []
-nodesFound k d totals (suc level) = nodesFound k d totals level ++ nextNode k d totals (nodesFound k d totals level) level
+unfoldable pub nodesFound : (ℕ → ℕ) → List ℕ → ℕ → List ℕ
+nodesFound side totals zero = []
+nodesFound side totals (suc level) = nodesFound side totals level ++ nextNode side totals (nodesFound side totals level) level
+
+-- what the sender finds in a tree, from its parts of the message and of the pads
+abbrev pub treeSiblings : ℕ → (ℕ → ℕ) → List ℕ → List ℕ → List ℕ
+treeSiblings k side message pads = nodesFound side (unmasked k side message pads) k
 
 -- the kept table (siblings) has these nodes in base-transfer order
 unfoldable pub siblingsOf : ℕ → List ℕ → List ℕ → List ℕ → List ℕ
 siblingsOf k delta pads message =
-    concat (treesOf k) (λ i.
-    nodesFound k (deltaOf k delta i) (unmasked k (deltaOf k delta i) (treePart k 64 i message) (treePart k 32 i pads)) k)
+    concat (treesOf k) (λ i. treeSiblings k (sideOf k (deltaOf k delta i)) (treePart k 64 i message) (treePart k 32 i pads))
 
 -- ---- what an honest setup has
 
--- the sender has the pad numbered 1 minus the path bit
+-- the pads that the sender has
 unfoldable pub senderPads : ℕ → List ℕ → List ℕ → List ℕ
 senderPads k delta pads =
-    concat (treesOf k) (λ i. concat k (λ l. part (64 * l + 32 * (1 - pathBit k (deltaOf k delta i) l)) 32 (treePart k 64 i pads)))
+    concat (treesOf k) (λ i. concat k (λ l. part (64 * l + 32 * sideOf k (deltaOf k delta i) l) 32 (treePart k 64 i pads)))
 
 -- the nodes beside the paths of the receiver's trees, in base-transfer order
 unfoldable pub besidePaths : ℕ → List ℕ → List ℕ → List ℕ
