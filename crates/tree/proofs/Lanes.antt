@@ -8,11 +8,12 @@ use native.Mathlib.Decide.{decLt}
 use lib.Bits.{bitXor}
 use lib.ListN.{length, getD}
 use lib.Seq.{ext-getD}
-use Rattle.words.specs.Bytes.{bytes, tabulate}
+use Rattle.words.specs.Bytes.{bytes, part}
 use Rattle.words.specs.Lanes.{laneBytes}
 use Rattle.words.specs.Xor.{xorEach, xorPart}
 use Rattle.words.proofs.Xor.{xor-assoc}
-use Rattle.words.proofs.Lists.{tabulate-at, xorEach-is, xorPart-length, xorPart-before, xorPart-in, xorPart-after}
+use Rattle.words.proofs.Lists.{xorEach-is, xorPart-length, xorPart-before, xorPart-in, xorPart-after}
+use Rattle.words.proofs.Concat.{part-at}
 use Rattle.words.proofs.Numbers.{bytesOfWords-at, bytes-xor}
 use Rattle.words.proofs.Lanes.{laned-at}
 use Rattle.words.proofs.LaneBytes.{laneBytes-length, laneBytes-at}
@@ -40,7 +41,7 @@ unfolding blocksOf
 blocks-word nodes y j h = laned-at 16 (λ l. blockWords (keyIn l nodes) 0 (nonceOf 0 0)) j h
 
 -- each half of the blocks holds the children of one side
-pub child-in : (nodes c r : List ℕ) (s : ℕ) → s < 2 → c ≡ blocksOf nodes 0 (nonceOf 0 0) → r ≡ tabulate 32 (λ i. getD c (32 * s + i) 0)
+pub child-in : (nodes c r : List ℕ) (s : ℕ) → s < 2 → c ≡ blocksOf nodes 0 (nonceOf 0 0) → r ≡ part (32 * s) 32 c
     → (l : ℕ) → l < 4 → keyIn l r ≡ childOf s (keyIn l nodes)
 unfolding keyIn
 child-in nodes c r s hs made half l hl =
@@ -55,7 +56,7 @@ child-in nodes c r s hs made half l hl =
         laneBytes-at l 8 r x h
         ∙ ap (λ (w : ℕ). getD (bytes 4 w) (x % 4) 0)
         (ap (λ (z : List ℕ). getD z (4 * (x / 4) + l) 0) half
-        ∙ tabulate-at 32 (λ i. getD c (32 * s + i) 0) (4 * (x / 4) + l) (omega arith)
+        ∙ part-at (32 * s) 32 c (4 * (x / 4) + l) (omega arith)
         ∙ ap (λ (z : List ℕ). getD z (32 * s + (4 * (x / 4) + l)) 0) made
         ∙ blocks-word nodes 0 (32 * s + (4 * (x / 4) + l)) (omega arith)
         ∙ ap₂ (λ (w i : ℕ). childWord w 0 (keyIn i nodes)) word here)

@@ -1,20 +1,20 @@
 // What a walk of the trees makes and adds up. Four trees go side by side: word w of lane l stands at 4w + l.
 ghost use mathlib.Core.Path.{_≡_};
 ghost use Prim.Native.Nat.{_+_, _*_, _≤_};
-ghost use lib.ListN.{length, getD};
-ghost use Rattle.words.specs.Bytes.{tabulate};
+ghost use lib.ListN.{length};
+ghost use Rattle.words.specs.Bytes.{part};
 ghost use Rattle.words.specs.Xor.{xorEach};
 ghost use Rattle.tree.specs.Lanes.{totalWord};
 
-// 32 words of four blocks, from a place on: from 0 the four left children, from 32 the four right ones.
-fn half(blocks: &[u32; 64], at: usize) -> [u32; 32]
-    requires { ⌜ at ≤ 32 ⌝ }
-    ensures { λ r. ⌜ r ≡ tabulate 32 (λ i. getD (now (blocks .entry)) (at + i) 0) ⌝ }
+// The four nodes at a place of s: in four blocks the left children stand at 0, the right ones at 32.
+pub fn nodes_at(s: &[u32], at: usize) -> [u32; 32]
+    requires { ⌜ at + 32 ≤ length (now s) ⌝ }
+    ensures { λ r. ⌜ r ≡ part at 32 (now (s .entry)) ⌝ }
 {
     let mut r = [0u32; 32];
     let mut i = 0;
     while i < 32 {
-        r[i] = blocks[at + i];
+        r[i] = s[at + i];
         i += 1;
     }
     r
@@ -28,7 +28,7 @@ pub fn totals(nodes: &[u32; 32], levels: usize, t: &mut [u32])
     if levels > 0 {
         let c = chacha20::four::block(nodes, 0, &chacha20::nonce(0, 0));
         words::xor_words(&mut t[0..64], &c);
-        totals(&half(&c, 0), levels - 1, &mut t[64..]);
-        totals(&half(&c, 32), levels - 1, &mut t[64..]);
+        totals(&nodes_at(&c, 0), levels - 1, &mut t[64..]);
+        totals(&nodes_at(&c, 32), levels - 1, &mut t[64..]);
     }
 }

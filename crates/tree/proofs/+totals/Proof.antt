@@ -17,7 +17,7 @@ use Rattle.tree.proofs.totals.Kinds as totals-kinds
 use Rattle.tree.proofs.+totals.Lts-totals as totals-lts
 use Rattle.chacha20.proofs.four.block.Reads as block-reads
 use Rattle.chacha20.proofs.nonce.Reads as nonce-reads
-use Rattle.tree.proofs.half.Reads as half-reads
+use Rattle.tree.proofs.nodes_at.Reads as nodes-at-reads
 use Rattle.words.proofs.xor_words.Reads as xor-words-reads
 use Rattle.tree.proofs.+totals.{statement}
 use Rattle.tree.proofs.+totals.Tie.{close}
@@ -33,7 +33,7 @@ totals-below t = and 2 totals-kinds.ps (falls 2 totals-kinds.ps _<_ μ-totals t)
 
 -- what is known of the callees: of each but itself its own contract
 abbrev claims : ℕ → totals-lts.Claims
-claims t = (nonce-reads.Asked, nonce-reads.Learnt, block-reads.Asked, block-reads.Learnt, xor-words-reads.Asked, xor-words-reads.Learnt, half-reads.Asked, half-reads.Learnt, totals-below t, totals.Post)
+claims t = (nonce-reads.Asked, nonce-reads.Learnt, block-reads.Asked, block-reads.Learnt, xor-words-reads.Asked, xor-words-reads.Learnt, nodes-at-reads.Asked, nodes-at-reads.Learnt, totals-below t, totals.Post)
 
 totals-nonce-requires : (t : ℕ) → totals-lts.Need-nonce-requires (claims t) (totals-at t) totals.Post
 totals-nonce-requires t c κs = search needs
@@ -56,8 +56,11 @@ totals-slice-aggregate-xor-words t c = search needs
 totals-xor-words-requires : (t : ℕ) → totals-lts.Need-xor-words-requires (claims t) (totals-at t) totals.Post
 totals-xor-words-requires t c κs = search needs
 
-totals-half-requires : (t : ℕ) → totals-lts.Need-half-requires (claims t) (totals-at t) totals.Post
-totals-half-requires t c κs = search needs
+totals-slice-aggregate-nodes-at : (t : ℕ) → totals-lts.Need-slice-aggregate-nodes-at (claims t) (totals-at t) totals.Post
+totals-slice-aggregate-nodes-at t c = search needs
+
+totals-nodes-at-requires : (t : ℕ) → totals-lts.Need-nodes-at-requires (claims t) (totals-at t) totals.Post
+totals-nodes-at-requires t c κs = search needs
 
 totals-sub-totals : (t : ℕ) → totals-lts.Need-sub-totals (claims t) (totals-at t) totals.Post
 totals-sub-totals t c = search needs
@@ -74,8 +77,11 @@ totals-part-totals-end t c = search needs
 totals-totals-requires : (t : ℕ) → totals-lts.Need-totals-requires (claims t) (totals-at t) totals.Post
 totals-totals-requires t c κs = search needs
 
-totals-half-requires-2 : (t : ℕ) → totals-lts.Need-half-requires-2 (claims t) (totals-at t) totals.Post
-totals-half-requires-2 t c κs = search needs
+totals-slice-aggregate-nodes-at-2 : (t : ℕ) → totals-lts.Need-slice-aggregate-nodes-at-2 (claims t) (totals-at t) totals.Post
+totals-slice-aggregate-nodes-at-2 t c = search needs
+
+totals-nodes-at-requires-2 : (t : ℕ) → totals-lts.Need-nodes-at-requires-2 (claims t) (totals-at t) totals.Post
+totals-nodes-at-requires-2 t c κs = search needs
 
 totals-sub-totals-3 : (t : ℕ) → totals-lts.Need-sub-totals-3 (claims t) (totals-at t) totals.Post
 totals-sub-totals-3 t c = search needs
@@ -108,7 +114,7 @@ totals-returns t c = let s = c .before .before .before .before .before .before .
     let t₂ = putMid 64 (length t₁ - 64) t₁ (c .before .before .before .before .before .before .before .before .before .totals .last .1 .1 .0) in
     let l₂ : length t₂ ≡ length t₁ = ap length e₂ ∙ xorPart-length t₁ 64 (length t₁ - 64) _ (omega (arith, l₁)) in
     totals-added (s .args .nodes .now) _ _
-    (child-in (s .args .nodes .now) _ _ 0 (omega arith) block (c .before .before .before .before .before .before .before .before .before .before .before .before .half .ensures)) (child-in (s .args .nodes .now) _ _ 1 (omega arith) block (c .before .before .before .before .before .half2 .ensures))
+    (child-in (s .args .nodes .now) _ _ 0 (omega arith) block (c .before .before .before .before .before .before .before .before .before .before .before .before .nodes-at .ensures)) (child-in (s .args .nodes .now) _ _ 1 (omega arith) block (c .before .before .before .before .before .nodes-at2 .ensures))
     _ t₀ t₁ t₂ _ room block e₁ e₂
     (part-added 64 (length t₂) (length t₂ - 64) t₂ _ _ (omega (arith, l₁, l₂)) (c .before .before .totals2 .ensures))
 
@@ -126,13 +132,15 @@ pub +totals-spec : {M : Type 1} → statement M
     (totals-part-xor-words-end t)
     (totals-slice-aggregate-xor-words t)
     (totals-xor-words-requires t)
-    (totals-half-requires t)
+    (totals-slice-aggregate-nodes-at t)
+    (totals-nodes-at-requires t)
     (totals-sub-totals t)
     (totals-sub-totals-2 t)
     (totals-part-totals-start t)
     (totals-part-totals-end t)
     (totals-totals-requires t)
-    (totals-half-requires-2 t)
+    (totals-slice-aggregate-nodes-at-2 t)
+    (totals-nodes-at-requires-2 t)
     (totals-sub-totals-3 t)
     (totals-sub-totals-4 t)
     (totals-part-totals-start-2 t)
