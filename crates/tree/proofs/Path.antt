@@ -8,7 +8,7 @@ use lib.Bits.{bitXor, xor-comm, xor-zero-l, xor-zero-r, xor-self}
 use lib.ListN.{getD}
 use borrow.Author.Tests.{eq-eqb, ne-eqb}
 use Rattle.words.specs.Xor.{sumTo}
-use Rattle.words.proofs.Xor.{digit, bit-lt, xor-assoc}
+use Rattle.words.proofs.Xor.{digit, xor-assoc}
 use Rattle.words.proofs.Lists.{tabulate-at}
 use Rattle.words.proofs.Sums.{sumTo-same}
 use Rattle.tree.specs.Tree.{childOf, sumBelow, totalOf}
@@ -19,7 +19,7 @@ use Rattle.tree.proofs.Sums.{half, sum-same, sum-number}
 -- ---- numbers
 
 pub path-bit-lt : (k d l : ℕ) → pathBit k d l < 2
-path-bit-lt k d l = bit-lt d (k - 1 - l)
+path-bit-lt k d l = omega arith
 
 -- the path's node at level l has the number of d's first l bits
 pub path-number : (k d l : ℕ) → d < 2 ^ k → l ≤ k → pathNumber k d l ≡ d / 2 ^ (k - l)
