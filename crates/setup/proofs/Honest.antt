@@ -17,7 +17,8 @@ use Rattle.tree.specs.Tree.{childOf, sumBelow, totalOf}
 use Rattle.tree.specs.Path.{pathNode, siblingNode}
 use Rattle.tree.proofs.Sums.{child-length}
 use Rattle.tree.proofs.Path.{sibling}
-use Rattle.setup.specs.Setup.{treesOf, rootOf, deltaOf, treePart, treeMessage, messageOf, sideOf, unmasked, nextNode, nodesFound, treeSiblings, siblingsOf, senderPads, besidePaths}
+use Rattle.setup.specs.Setup.{treesOf, rootOf, deltaOf, treePart, treeMessage, messageOf}
+use Rattle.setup.specs.Setup.{sideOf, unmasked, nextNode, nodesFound, treeSiblings, siblingsOf, senderPads, besidePaths}
 
 total-length : (root : List ℕ) (l s : ℕ) → length (totalOf root l s) ≡ 32
 unfolding totalOf
@@ -141,45 +142,45 @@ honest-tree k d root pads h =
 
 -- ---- all trees
 
-module _ (k : ℕ) (delta roots pads : List ℕ) (long : treesOf k * (64 * k) ≤ length pads) where
-  fits : (i : ℕ) → i < treesOf k → 64 * k ≤ length (treePart k 64 i pads)
-  fits i h =
-      let room : i * (64 * k) + 64 * k ≤ treesOf k * (64 * k) = place-fits i (treesOf k) (64 * k) h in
-      omega (arith, part-length (i * (64 * k)) (64 * k) pads (omega arith))
+fits : (k : ℕ) (pads : List ℕ) → treesOf k * (64 * k) ≤ length pads → (i : ℕ) → i < treesOf k → 64 * k ≤ length (treePart k 64 i pads)
+fits k pads long i h =
+    let room : i * (64 * k) + 64 * k ≤ treesOf k * (64 * k) = place-fits i (treesOf k) (64 * k) h in
+    omega (arith, part-length (i * (64 * k)) (64 * k) pads (omega arith))
 
-  -- tree i's part of the message
-  message-part : (i : ℕ) → i < treesOf k
-      → treePart k 64 i (messageOf k roots pads) ≡ treeMessage k (rootOf roots i) (treePart k 64 i pads)
-  unfolding messageOf
-  message-part =
-      concat-part (λ i. treeMessage k (rootOf roots i) (treePart k 64 i pads)) (64 * k) (treesOf k)
-      (λ i h. message-length k (rootOf roots i) (treePart k 64 i pads))
+-- tree i's part of the message
+pub message-part : (k : ℕ) (roots pads : List ℕ) (i : ℕ) → i < treesOf k
+    → treePart k 64 i (messageOf k roots pads) ≡ treeMessage k (rootOf roots i) (treePart k 64 i pads)
+unfolding messageOf
+message-part k roots pads =
+    concat-part (λ i. treeMessage k (rootOf roots i) (treePart k 64 i pads)) (64 * k) (treesOf k)
+    (λ i h. message-length k (rootOf roots i) (treePart k 64 i pads))
 
-  -- and of the sender's pads
-  pads-part : (i : ℕ) → i < treesOf k
-      → treePart k 32 i (senderPads k delta pads) ≡ concat k (pad k (deltaOf k delta i) (treePart k 64 i pads))
-  unfolding senderPads pad
-  pads-part =
-      concat-part (λ i. concat k (pad k (deltaOf k delta i) (treePart k 64 i pads))) (32 * k) (treesOf k)
-      (λ i h.
-      concat-length (pad k (deltaOf k delta i) (treePart k 64 i pads)) 32 k
-      (pad-length k (deltaOf k delta i) (treePart k 64 i pads) (fits i h))
-      ∙ mul-comm k 32)
+-- and of the sender's pads
+pads-part : (k : ℕ) (delta pads : List ℕ) → treesOf k * (64 * k) ≤ length pads → (i : ℕ) → i < treesOf k
+    → treePart k 32 i (senderPads k delta pads) ≡ concat k (pad k (deltaOf k delta i) (treePart k 64 i pads))
+unfolding senderPads pad
+pads-part k delta pads long =
+    concat-part (λ i. concat k (pad k (deltaOf k delta i) (treePart k 64 i pads))) (32 * k) (treesOf k)
+    (λ i h.
+    concat-length (pad k (deltaOf k delta i) (treePart k 64 i pads)) 32 k
+    (pad-length k (deltaOf k delta i) (treePart k 64 i pads) (fits k pads long i h))
+    ∙ mul-comm k 32)
 
-  -- the sender, given the receiver's message and, for each base transfer, the receiver's pad numbered 1 minus the path bit, gets
-  -- the nodes beside its paths in the receiver's trees
-  pub honest-setup : siblingsOf k delta (senderPads k delta pads) (messageOf k roots pads) ≡ besidePaths k delta roots
-  unfolding siblingsOf besidePaths pad
-  honest-setup =
-      concat-same (treesOf k)
-      (λ i. treeSiblings k (side i) (treePart k 64 i (messageOf k roots pads)) (treePart k 32 i (senderPads k delta pads)))
-      (λ i. concat k (siblingNode k (rootOf roots i) (deltaOf k delta i)))
-      (λ i h.
-      ap₂ (treeSiblings k (side i)) (message-part i h) (pads-part i h)
-      ∙ honest-tree k (deltaOf k delta i) (rootOf roots i) (treePart k 64 i pads) (fits i h))
-    where
-      side : ℕ → ℕ → ℕ
-      side i = sideOf k (deltaOf k delta i)
+-- the sender, given the receiver's message and, for each base transfer, the receiver's pad numbered 1 minus the path bit, gets the
+-- nodes beside its paths in the receiver's trees
+pub honest-setup : (k : ℕ) (delta roots pads : List ℕ) → treesOf k * (64 * k) ≤ length pads
+    → siblingsOf k delta (senderPads k delta pads) (messageOf k roots pads) ≡ besidePaths k delta roots
+unfolding siblingsOf besidePaths pad
+honest-setup k delta roots pads long =
+    concat-same (treesOf k)
+    (λ i. treeSiblings k (side i) (treePart k 64 i (messageOf k roots pads)) (treePart k 32 i (senderPads k delta pads)))
+    (λ i. concat k (siblingNode k (rootOf roots i) (deltaOf k delta i)))
+    (λ i h.
+    ap₂ (treeSiblings k (side i)) (message-part k roots pads i h) (pads-part k delta pads long i h)
+    ∙ honest-tree k (deltaOf k delta i) (rootOf roots i) (treePart k 64 i pads) (fits k pads long i h))
+  where
+    side : ℕ → ℕ → ℕ
+    side i = sideOf k (deltaOf k delta i)
 
 -- base pads of 8,192 bytes are long enough
 pub pads-enough : (k : ℕ) → treesOf k * (64 * k) ≤ 8192
