@@ -115,11 +115,11 @@ unmasked-at k side message pads l j hl hj =
 
 -- the pad numbered 1 minus the path bit
 pad : ℕ → ℕ → List ℕ → ℕ → List ℕ
-pad k d pads l = part (64 * l + 32 * (sideOf k d l)) 32 pads
+pad k d pads l = part (64 * l + 32 * sideOf k d l) 32 pads
 
 pad-length : (k d : ℕ) (pads : List ℕ) → 64 * k ≤ length pads → (l : ℕ) → l < k → length (pad k d pads l) ≡ 32
 unfolding pad
-pad-length k d pads h l lt = part-length (64 * l + 32 * (sideOf k d l)) 32 pads (omega arith)
+pad-length k d pads h l lt = part-length (64 * l + 32 * sideOf k d l) 32 pads (omega arith)
 
 -- one tree's setup gives the nodes beside the path
 pub honest-tree : (k d : ℕ) (root pads : List ℕ) → 64 * k ≤ length pads
