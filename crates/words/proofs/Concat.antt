@@ -1,13 +1,13 @@
 -- Lists one after the other. Assumes nothing.
 use mathlib.Core.Path.{_≡_, refl, sym, ap, ap₂, _∙_}
-use mathlib.Core.List.{List, _++_, append-nil, append-assoc}
+use mathlib.Core.List.{List, [], _∷_, _++_, append-nil, append-assoc}
 use Prim.Native.Nat.{ℕ, zero, suc, _+_, _-_, _*_, _≤_, _<_}
-use native.Mathlib.Nat.{zero-mul, suc-mul, not-suc-le-zero, add-zero, add-suc, mul-le-mul-right}
+use native.Mathlib.Nat.{zero-mul, suc-mul, not-suc-le-zero, zero-add, suc-add, add-zero, add-suc, add-mul, mul-le-mul-right}
 use native.Mathlib.Omega.{arith}
-use native.Mathlib.Decide.{ℕ-discrete}
+use native.Mathlib.Decide.{decLt, ℕ-discrete}
 use native.Mathlib.Numerals.{add-one}
-use lib.ListN.{length, getD, take, drop, length-append, length-drop}
-use lib.Seq.{getD-take, getD-drop, take-at, take-all, drop-at, take-append-le, drop-append-le, length-take-le}
+use lib.ListN.{length, getD, take, drop, length-append, length-drop, length-take, List·getD-eq-default}
+use lib.Seq.{getD-take, getD-drop, take-at, take-all, take-nil, take-take, take-add, drop-at, drop-drop, take-append-le, drop-append-le, length-take-le}
 use borrow.Rule.Slice.PartMut.{putMid, postOf, same-len-mid, mid-len}
 use Rattle.words.specs.Bytes.{part, concat}
 
@@ -24,6 +24,36 @@ part-at a n s j h = getD-take n (drop a s) j 0 h ∙ getD-drop a s j 0
 
 pub part-length : (a n : ℕ) (s : List ℕ) → a + n ≤ length s → length (part a n s) ≡ n
 part-length a n s h = length-take-le n (drop a s) (omega (arith, length-drop a s))
+
+-- a bound of all elements
+pub part-lt : (a n : ℕ) (s : List ℕ) (m : ℕ) → 0 < m → ((i : ℕ) → getD s i 0 < m) → (i : ℕ) → getD (part a n s) i 0 < m
+part-lt a n s m pos h i = here (decLt i n)
+  where
+    here : Dec (i < n) → getD (part a n s) i 0 < m
+    here (yes lt) = rw (part-at a n s i lt) (h (a + i))
+    here (no ge) =
+        let past : length (part a n s) ≤ i = omega (arith, length-take n (drop a s)) in
+        rw (List·getD-eq-default (part a n s) 0 past) pos
+
+-- a part of a part
+drop-take : (a m : ℕ) (s : List ℕ) → drop a (take (a + m) s) ≡ take m (drop a s)
+drop-take zero m s = ap (λ (n : ℕ). take n s) (zero-add m)
+drop-take (suc a) m [] = ap (drop (suc a)) (take-nil (suc a + m)) ∙ sym (take-nil m)
+drop-take (suc a) m (x ∷ s) = ap (λ (n : ℕ). drop (suc a) (take n (x ∷ s))) (suc-add a m) ∙ drop-take a m s
+
+pub part-part : (a n b m : ℕ) (s : List ℕ) → a + n ≤ m → part a n (part b m s) ≡ part (b + a) n s
+part-part a n b m s h =
+    let e : m ≡ a + (m - a) = omega arith in
+    ap (λ (k : ℕ). take n (drop a (take k (drop b s)))) e
+    ∙ ap (take n) (drop-take a (m - a) (drop b s))
+    ∙ take-take n (m - a) (drop a (drop b s)) (omega arith)
+    ∙ ap (take n) (drop-drop a b s)
+
+-- place j of c places that begin at place i
+pub place-part : (i c j m : ℕ) (s : List ℕ) → j < c → part (j * m) m (part (i * m) ((i + c) * m - i * m) s) ≡ part ((i + j) * m) m s
+place-part i c j m s h =
+    part-part (j * m) m (i * m) ((i + c) * m - i * m) s (omega (arith, place-fits j c m h, add-mul i c m))
+    ∙ ap (λ (a : ℕ). part a m s) (sym (add-mul i j m))
 
 pub concat-same : (n : ℕ) (f g : ℕ → List ℕ) → ((i : ℕ) → i < n → f i ≡ g i) → concat n f ≡ concat n g
 unfolding concat
@@ -57,6 +87,15 @@ concat-grow f i c a e xs ys more size le fits before =
 pub concat-one : (f : ℕ → List ℕ) (i : ℕ) → f i ≡ concat 1 (λ j. f (i + j))
 unfolding concat
 concat-one f i = ap f (sym (add-zero i))
+
+-- a list is its parts, one after the other
+pub concat-parts : (m n : ℕ) (s : List ℕ) → concat n (λ i. part (i * m) m s) ≡ take (n * m) s
+unfolding concat
+concat-parts m zero s = ap (λ (k : ℕ). take k s) (sym (zero-mul m))
+concat-parts m (suc n) s =
+    ap (λ (x : List ℕ). x ++ part (n * m) m s) (concat-parts m n s)
+    ∙ sym (take-add (n * m) m s)
+    ∙ ap (λ (k : ℕ). take k s) (sym (suc-mul n m))
 
 -- ---- lists of one length
 
@@ -92,3 +131,20 @@ pub concat-at : (f : ℕ → List ℕ) (m n : ℕ) → ((i : ℕ) → i < n → 
     → getD (concat n f) (i * m + j) 0 ≡ getD (f i) j 0
 concat-at f m n each i j h hj =
     sym (part-at (i * m) m (concat n f) j hj) ∙ ap (λ (s : List ℕ). getD s j 0) (concat-part f m n each i h)
+
+-- ---- groups of k lists
+
+pub concat-nested : (n k : ℕ) (f : ℕ → List ℕ) → concat (n * k) f ≡ concat n (λ i. concat k (λ l. f (i * k + l)))
+unfolding concat
+concat-nested zero k f = ap (λ (n : ℕ). concat n f) (zero-mul k)
+concat-nested (suc n) k f =
+    ap (λ (m : ℕ). concat m f) (suc-mul n k)
+    ∙ concat-add (n * k) k f
+    ∙ ap (λ (x : List ℕ). x ++ concat k (λ l. f (n * k + l))) (concat-nested n k f)
+
+-- the part of each group, of lists of m elements
+pub group-part : (f : ℕ → List ℕ) (m n k : ℕ) → ((i : ℕ) → length (f i) ≡ m) → (i : ℕ) → i < n
+    → part (i * (k * m)) (k * m) (concat (n * k) f) ≡ concat k (λ l. f (i * k + l))
+group-part f m n k each i h =
+    ap (part (i * (k * m)) (k * m)) (concat-nested n k f)
+    ∙ concat-part (λ i. concat k (λ l. f (i * k + l))) (k * m) n (λ i h. concat-length (λ l. f (i * k + l)) m k (λ l h. each (i * k + l))) i h

@@ -5,14 +5,16 @@ use Prim.Native.Nat.{ℕ, zero, suc, _+_, _-_, _*_, _/_, _%_, _≤_, _<_}
 use native.Mathlib.Nat.{mul-le-mul-right, zero-add}
 use native.Mathlib.Omega.{arith}
 use native.Mathlib.Decide.{decLt}
+use lib.Bits.{bitXor}
 use lib.ListN.{length, getD}
 use lib.Seq.{ext-getD}
 use Rattle.words.specs.Bytes.{Bytes, bytes, word32, bytesOfWords, part, put}
 use Rattle.words.specs.Lanes.{lane, laneBytes}
+use Rattle.words.specs.Xor.{xorPart}
 use Rattle.words.proofs.Below.{below}
-use Rattle.words.proofs.Lists.{put-before, put-in}
+use Rattle.words.proofs.Lists.{put-before, put-in, xorPart-before, xorPart-in, xorPart-after}
 use Rattle.words.proofs.Concat.{part-at, part-length}
-use Rattle.words.proofs.Numbers.{bytes-length, bytesOfWords-length, bytesOfWords-at, bytes-number}
+use Rattle.words.proofs.Numbers.{bytes-length, bytes-number, bytes-xor, bytesOfWords-length, bytesOfWords-at}
 use Rattle.words.proofs.Lanes.{lane-at, lane-length}
 
 pub laneBytes-length : (l n : ℕ) (t : List ℕ) → length (laneBytes l n t) ≡ 4 * n
@@ -101,3 +103,31 @@ lanes-loaded n s t h long small words l hl =
         ∙ ap₂ (λ (a b : ℕ). getD s (a * n + b + x % 4) 0) here rest
         ∙ ap (λ (i : ℕ). getD s i 0) place
         ∙ sym (part-at (l * n) n s x lt)
+
+-- ---- something added to a part of four lanes: place a of the words is place a of each lane's bytes
+
+module _ (l n a m : ℕ) (t : List ℕ) (f : ℕ → ℕ) (hl : l < 4) (ha : a % 4 ≡ 0) (hm : m % 4 ≡ 0) (fits : a + m ≤ length t) where
+  pub lane-added-in : (x : ℕ) → x < 4 * n → a ≤ x → x < a + m
+      → getD (laneBytes l n (xorPart t a m f)) x 0
+      ≡ bitXor (getD (laneBytes l n t) x 0) (getD (bytes 4 (f (4 * ((x - a) / 4) + l))) (x % 4) 0)
+  lane-added-in x h lo hi =
+      let place : 4 * (x / 4) + l ≡ a + (4 * ((x - a) / 4) + l) = omega arith in
+      laneBytes-at l n (xorPart t a m f) x h
+      ∙ ap (λ (w : ℕ). getD (bytes 4 w) (x % 4) 0)
+      (ap (λ (j : ℕ). getD (xorPart t a m f) j 0) place
+      ∙ xorPart-in t a m f fits (4 * ((x - a) / 4) + l) (omega arith)
+      ∙ ap (λ (j : ℕ). bitXor (getD t j 0) (f (4 * ((x - a) / 4) + l))) (sym place))
+      ∙ bytes-xor 4 (getD t (4 * (x / 4) + l) 0) (f (4 * ((x - a) / 4) + l)) (x % 4)
+      ∙ ap (λ (b : ℕ). bitXor b (getD (bytes 4 (f (4 * ((x - a) / 4) + l))) (x % 4) 0)) (sym (laneBytes-at l n t x h))
+
+  pub lane-added-before : (x : ℕ) → x < 4 * n → x < a → getD (laneBytes l n (xorPart t a m f)) x 0 ≡ getD (laneBytes l n t) x 0
+  lane-added-before x h lo =
+      laneBytes-at l n (xorPart t a m f) x h
+      ∙ ap (λ (w : ℕ). getD (bytes 4 w) (x % 4) 0) (xorPart-before t a m f fits (4 * (x / 4) + l) (omega arith))
+      ∙ sym (laneBytes-at l n t x h)
+
+  pub lane-added-after : (x : ℕ) → x < 4 * n → a + m ≤ x → getD (laneBytes l n (xorPart t a m f)) x 0 ≡ getD (laneBytes l n t) x 0
+  lane-added-after x h hi =
+      laneBytes-at l n (xorPart t a m f) x h
+      ∙ ap (λ (w : ℕ). getD (bytes 4 w) (x % 4) 0) (xorPart-after t a m f fits (4 * (x / 4) + l) (omega arith))
+      ∙ sym (laneBytes-at l n t x h)

@@ -21,6 +21,12 @@ unfolding tabulate
 tabulate-length zero f = refl
 tabulate-length (suc n) f = length-append (tabulate n f) (f n ∷ []) ∙ omega (arith, tabulate-length n f)
 
+pub tabulate-same : (n : ℕ) (f g : ℕ → ℕ) → ((i : ℕ) → i < n → f i ≡ g i) → tabulate n f ≡ tabulate n g
+unfolding tabulate
+tabulate-same zero f g e = refl
+tabulate-same (suc n) f g e =
+    ap₂ (λ (l : List ℕ) (x : ℕ). l ++ (x ∷ [])) (tabulate-same n f g (λ i h. e i (omega arith))) (e n (omega arith))
+
 pub tabulate-at : (n : ℕ) (f : ℕ → ℕ) (t : ℕ) → t < n → getD (tabulate n f) t 0 ≡ f t
 unfolding tabulate
 tabulate-at zero f t h = absurd (not-suc-le-zero h)
@@ -32,6 +38,16 @@ tabulate-at (suc n) f t h = here (ℕ-discrete t n) (tabulate-at n f t)
         List·getD-append (tabulate n f) (f n ∷ []) 0 t (omega (arith, tabulate-length n f)) ∙ before (omega arith)
 
 -- ---- a list with f i added to its element i
+
+-- a bound of all its elements
+pub tabulate-lt : (n m : ℕ) (f : ℕ → ℕ) → 0 < m → ((i : ℕ) → f i < m) → (i : ℕ) → getD (tabulate n f) i 0 < m
+tabulate-lt n m f pos h i = here (decLt i n)
+  where
+    here : Dec (i < n) → getD (tabulate n f) i 0 < m
+    here (yes lt) = rw (tabulate-at n f i lt) (h i)
+    here (no ge) =
+        let past : length (tabulate n f) ≤ i = omega (arith, tabulate-length n f) in
+        rw (List·getD-eq-default (tabulate n f) 0 past) pos
 
 pub xorEach-length : (l : List ℕ) (f : ℕ → ℕ) → length (xorEach l f) ≡ length l
 unfolding xorEach
@@ -104,6 +120,19 @@ zeros-at n i = here (decLt i n)
     here : Dec (i < n) → _≡_ {A = ℕ} (getD (replicate n 0) i 0) 0
     here (yes h) = getD-replicate n i 0 0 h
     here (no h) = List·getD-eq-default (replicate n 0) 0 (omega (arith, length-replicate {A = ℕ} n 0))
+
+-- and a part of them
+pub zeros-part : (m n i : ℕ) → _≡_ {A = ℕ} (getD (take n (replicate m 0)) i 0) 0
+zeros-part m n i = here (decLt i n)
+  where
+    zs : List ℕ
+    zs = replicate m 0
+
+    here : Dec (i < n) → getD (take n zs) i 0 ≡ 0
+    here (yes h) = getD-take n zs i 0 h ∙ zeros-at m i
+    here (no h) =
+        let past : length (take n zs) ≤ i = omega (arith, length-take n zs) in
+        List·getD-eq-default (take n zs) 0 past
 
 -- ---- parts of a sum
 

@@ -1,0 +1,74 @@
+-- A side as a mask, and the sides of delta. Assumes nothing.
+use mathlib.Core.Path.{_≡_, refl, sym, ap, _∙_}
+use mathlib.Core.List.{List}
+use mathlib.Core.Bool.{true}
+use Prim.Native.Nat.{ℕ, _+_, _-_, _*_, _/_, _%_, _^_, _≤_, _<_}
+use native.Mathlib.Nat.{zero-mul, one-mul}
+use native.Mathlib.Omega.{arith}
+use lib.Bits.{bitXor, bitAnd, xor-lt, xor-zero-r}
+use lib.ListN.{getD}
+use Rattle.words.specs.Bits.{bitAt}
+use Rattle.words.proofs.Xor.{digit, bit-lt, xor-cancel, and-bit}
+use Rattle.words.proofs.Sums.{ofBits-bit}
+use Rattle.answer.specs.Answer.{widthAllowed}
+use Rattle.answer.proofs.Laws.{width-cases}
+use Rattle.setup.specs.Setup.{deltaOf, sideOf}
+
+-- of two elements 32 places apart, words of w bits, a mask that is all ones or none takes the one on its side
+pub chosen : (w : ℕ) (t : List ℕ) (j side mask : ℕ) → getD t j 0 < 2 ^ w → getD t (32 + j) 0 < 2 ^ w → side < 2
+    → mask ≡ side * (2 ^ w - 1)
+    → bitXor (getD t j 0) (bitAnd (bitXor (getD t j 0) (getD t (32 + j) 0)) mask) ≡ getD t (32 * side + j) 0
+chosen w t j side mask ha hb hs e =
+    ap (λ (m : ℕ). bitXor a (bitAnd (bitXor a b) m)) e
+    ∙ ap (bitXor a) (and-bit w (bitXor a b) side (xor-lt w a b ha hb) hs)
+    ∙ digit (λ (s : ℕ). bitXor a (s * bitXor a b) ≡ getD t (32 * s + j) 0)
+    (ap (bitXor a) (zero-mul (bitXor a b)) ∙ xor-zero-r a ∙ ap (λ (i : ℕ). getD t i 0) (omega arith))
+    (ap (bitXor a) (one-mul (bitXor a b)) ∙ xor-cancel a b) side hs
+  where
+    a : ℕ
+    a = getD t j 0
+
+    b : ℕ
+    b = getD t (32 + j) 0
+
+-- ---- the bit of delta that a base transfer goes by
+
+-- base transfer c stands at level c % k of tree c / k: its path bit is bit c + k - 1 - 2 (c % k) of delta
+pub side-bit : (k : ℕ) → widthAllowed k ≡ true → (delta : List ℕ) (c : ℕ)
+    → 1 - bitAt delta (c + k - 1 - 2 * (c % k)) ≡ sideOf k (deltaOf k delta (c / k)) (c % k)
+side-bit k h delta c =
+    ap (λ (i : ℕ). 1 - bitAt delta i) (place k h c)
+    ∙ ap (λ (b : ℕ). 1 - b) (sym (ofBits-bit k (λ b. bitAt delta (c / k * k + b)) (λ b. bit-lt _ _) (k - 1 - c % k) (low k h c)))
+  where
+    place : (k : ℕ) → widthAllowed k ≡ true → (c : ℕ) → c + k - 1 - 2 * (c % k) ≡ c / k * k + (k - 1 - c % k)
+    place = width-cases (λ (k : ℕ). (c : ℕ) → c + k - 1 - 2 * (c % k) ≡ c / k * k + (k - 1 - c % k))
+        (λ c. omega arith) (λ c. omega arith) (λ c. omega arith) (λ c. omega arith)
+
+    low : (k : ℕ) → widthAllowed k ≡ true → (c : ℕ) → k - 1 - c % k < k
+    low = width-cases (λ (k : ℕ). (c : ℕ) → k - 1 - c % k < k) (λ c. omega arith) (λ c. omega arith) (λ c. omega arith) (λ c. omega arith)
+
+pub side-lt : (k d l : ℕ) → sideOf k d l < 2
+side-lt k d l = omega arith
+
+-- ---- the levels of the base transfers in turn
+
+-- the bit's place is inside delta
+pub level-fits : (k : ℕ) → widthAllowed k ≡ true → (c : ℕ) → c < 128
+    → (0 < k) × (k ≤ 8) × (c % k < k) × (2 * (c % k) ≤ c + k - 1) × (c + k - 1 - 2 * (c % k) < 128)
+level-fits =
+    width-cases (λ (k : ℕ). (c : ℕ) → c < 128 → (0 < k) × (k ≤ 8) × (c % k < k) × (2 * (c % k) ≤ c + k - 1) × (c + k - 1 - 2 * (c % k) < 128))
+    (λ c h. omega arith) (λ c h. omega arith) (λ c h. omega arith) (λ c h. omega arith)
+
+pub level-first : (k : ℕ) → widthAllowed k ≡ true → 0 ≡ 0 % k
+level-first = width-cases (λ (k : ℕ). 0 ≡ 0 % k) refl refl refl refl
+
+-- after the last level of a tree comes the first of the next
+pub level-wraps : (k : ℕ) → widthAllowed k ≡ true → (c : ℕ) → c % k + 1 ≡ k → 0 ≡ (c + 1) % k
+level-wraps =
+    width-cases (λ (k : ℕ). (c : ℕ) → c % k + 1 ≡ k → 0 ≡ (c + 1) % k)
+    (λ c e. omega arith) (λ c e. omega arith) (λ c e. omega arith) (λ c e. omega arith)
+
+pub level-next : (k : ℕ) → widthAllowed k ≡ true → (c : ℕ) → (c % k + 1 ≡ k → ⊥) → c % k + 1 ≡ (c + 1) % k
+level-next =
+    width-cases (λ (k : ℕ). (c : ℕ) → (c % k + 1 ≡ k → ⊥) → c % k + 1 ≡ (c + 1) % k)
+    (λ c n. omega arith) (λ c n. omega arith) (λ c n. omega arith) (λ c n. omega arith)

@@ -1,0 +1,167 @@
+-- `setup::receiver::write_message` meets its contract: the message begins with those of the first i trees. Assumes nothing.
+use mathlib.Core.Path.{_≡_, sym, ap, _∙_}
+use mathlib.Core.List.{List}
+use Prim.Native.Nat.{ℕ, _+_, _-_, _*_, _%_, _≤_}
+use native.Mathlib.Nat.{zero-mul}
+use native.Mathlib.Omega.{arith}
+use lib.ListN.{length, take}
+use lib.Seq.{take-all}
+use borrow.Rule.Slice.PartMut.{mid-len}
+use Rattle.words.specs.Bytes.{concat}
+use Rattle.words.proofs.Concat.{concat-grow, concat-length}
+use Rattle.setup.specs.Setup.{treesOf, rootOf, treePart, treeMessage, messageOf}
+use Rattle.setup.proofs.Honest.{message-length}
+use Rattle.setup.proofs.Widths.{width-fits, four-fit}
+use Rattle.setup.proofs.Message.{four-from}
+use Rattle.setup.proofs.receiver.write_message.Statement.{statement}
+use Rattle.setup.proofs.receiver.write_message.Tie as tie
+
+abbrev Inv-loop : tie.InvT-loop
+Inv-loop k roots pads message₀ n size i₀ message i =
+    (i % 4 ≡ 0)
+    × (i ≤ treesOf k)
+    × (length message ≡ 8192)
+    × (take (i * (64 * k)) message ≡ concat i (λ j. treeMessage k (rootOf roots j) (treePart k 64 j pads)))
+
+abbrev μ-loop : tie.MeasureT-loop
+μ-loop k roots pads message₀ n size i₀ message i = treesOf k - i
+
+div-n : tie.Need-div-n Inv-loop μ-loop
+div-n c = omega (arith, width-fits _ (c .before .before .before .pre .0) .some)
+
+mul-size : tie.Need-mul-size Inv-loop μ-loop
+mul-size c = omega (arith, width-fits _ (c .before .before .before .pre .0) .low)
+
+loop-holds : tie.Need-loop-holds Inv-loop μ-loop
+unfolding concat
+loop-holds c =
+    let s = c .before .before .before in
+    (omega arith, omega arith, s .pre .3, ap (λ (n : ℕ). take n (s .args .message .now)) (zero-mul (64 * s .args .k)))
+
+-- four trees from tree i on are within the roots, the pads and the message
+abbrev Room : ℕ → ℕ → Type 0
+Room k i = (i + 4 ≤ treesOf k) × (treesOf k ≤ 128) × ((i + 4) * (64 * k) ≡ i * (64 * k) + 4 * (64 * k)) × ((i + 4) * (64 * k) ≤ 8192)
+
+room : (c : tie.In-loop Inv-loop μ-loop) → Room (c .before .before .before .before .before .args .k) (c .before .loop .i)
+room c =
+    let k = c .before .before .before .before .before .args .k in
+    let fits = width-fits k (c .before .before .before .before .before .pre .0) in
+    let four = four-fit k (c .before .loop .i) fits (c .before .loop .inv .0) (c .loop-test .taken) (64 * k) in
+    (four .0, fits .trees, four .1, omega (arith, four .2, fits .pairs))
+
+add-next : tie.Need-add-next Inv-loop μ-loop
+add-next c = omega (arith, room c)
+
+mul-start : tie.Need-mul-start Inv-loop μ-loop
+mul-start c = omega (arith, room c)
+
+mul-end : tie.Need-mul-end Inv-loop μ-loop
+mul-end c = omega (arith, room c)
+
+mul-first : tie.Need-mul-first Inv-loop μ-loop
+mul-first c = omega (arith, room c)
+
+mul-last : tie.Need-mul-last Inv-loop μ-loop
+mul-last c = omega (arith, room c)
+
+sub-four-messages : tie.Need-sub-four-messages Inv-loop μ-loop
+sub-four-messages c = omega (arith, room c)
+
+part-four-messages-start : tie.Need-part-four-messages-start Inv-loop μ-loop
+part-four-messages-start c = omega (arith, room c)
+
+part-four-messages-end : tie.Need-part-four-messages-end Inv-loop μ-loop
+part-four-messages-end c = omega (arith, room c, c .before .before .before .before .before .pre)
+
+sub-four-messages-2 : tie.Need-sub-four-messages-2 Inv-loop μ-loop
+sub-four-messages-2 c = omega (arith, room (c .before))
+
+part-four-messages-start-2 : tie.Need-part-four-messages-start-2 Inv-loop μ-loop
+part-four-messages-start-2 c = omega (arith, room (c .before))
+
+part-four-messages-end-2 : tie.Need-part-four-messages-end-2 Inv-loop μ-loop
+part-four-messages-end-2 c = omega (arith, room (c .before), c .before .before .before .before .before .before .pre)
+
+sub-four-messages-3 : tie.Need-sub-four-messages-3 Inv-loop μ-loop
+sub-four-messages-3 c = omega (arith, room (c .before .before))
+
+part-four-messages-start-3 : tie.Need-part-four-messages-start-3 Inv-loop μ-loop
+part-four-messages-start-3 c = omega (arith, room (c .before .before))
+
+part-four-messages-end-3 : tie.Need-part-four-messages-end-3 Inv-loop μ-loop
+part-four-messages-end-3 c = omega (arith, room (c .before .before), c .before .before .before .loop .inv .2)
+
+four-messages-requires : tie.Need-four-messages-requires Inv-loop μ-loop
+four-messages-requires c κs =
+    let s = c .before .before .before .before .before .before .before .before in
+    let w = c .before .before .before .before .loop in
+    let here = room (c .before .before .before) in
+    let a : ℕ = w .i * (64 * s .args .k) in
+    let e : ℕ = (w .i + 4) * (64 * s .args .k) in
+    let size : e - a ≡ 4 * (64 * s .args .k) = omega (arith, here) in (
+      width-fits _ (s .pre .0) .low,
+      mid-len (w .i * 32) ((w .i + 4) * 32) (s .args .roots .now) (omega (arith, here, s .pre)) ∙ omega arith,
+      mid-len a e (s .args .pads .now) (omega (arith, here, s .pre)) ∙ size,
+      mid-len a e (w .message) (omega (arith, here, w .inv .2)) ∙ size,
+    )
+
+loop-less : tie.Need-loop-less Inv-loop μ-loop
+loop-less c = omega (arith, room (c .before .before .before .before .before .before))
+
+loop-again : tie.Need-loop-again Inv-loop μ-loop
+loop-again c =
+    let s = c .before .before .before .before .before .before .before .before .before .before .before in
+    let w = c .before .before .before .before .before .before .before .loop in
+    let here = room (c .before .before .before .before .before .before) in
+    let k = s .args .k in
+    let f : ℕ → List ℕ = λ j. treeMessage k (rootOf (s .args .roots .now) j) (treePart k 64 j (s .args .pads .now)) in
+    let size = concat-length (λ j. f (w .i + j)) (64 * k) 4 (λ j h. message-length k _ _) in
+    let whole : 4 * (64 * k) ≡ (w .i + 4) * (64 * k) - w .i * (64 * k) = omega (arith, here) in
+    let grown = concat-grow f (w .i) 4 (w .i * (64 * k)) ((w .i + 4) * (64 * k)) (w .message) _
+    (c .before .before .four-messages .ensures ∙ four-from k (w .i) (s .args .roots .now) (s .args .pads .now))
+    (size ∙ whole) (omega (arith, here)) (omega (arith, here, w .inv .2)) (w .inv .3) in
+    (omega (arith, w .inv .0), here .0, grown .0 ∙ w .inv .2, grown .1)
+
+same-length : tie.Need-same-length Inv-loop μ-loop
+same-length c = c .before .loop .inv .2 ∙ sym (c .before .before .before .before .before .pre .3)
+
+returns : tie.Need-returns Inv-loop μ-loop
+unfolding messageOf
+returns c =
+    let s = c .before .before .before .before .before in
+    let w = c .before .loop in
+    let k = s .args .k in
+    let all : w .i ≡ treesOf k = omega (arith, w .inv .1) in
+    let end = ap (λ (i : ℕ). i * (64 * k)) all ∙ width-fits k (s .pre .0) .pairs in
+    sym (take-all (w .i * (64 * k)) (w .message) (omega (arith, end, w .inv .2)))
+    ∙ w .inv .3
+    ∙ ap (λ (i : ℕ). concat i (λ j. treeMessage k (rootOf (s .args .roots .now) j) (treePart k 64 j (s .args .pads .now)))) all
+
+pub write-message-spec : {M : Type 1} → statement M
+write-message-spec =
+    tie.close
+    (tie.spec
+    Inv-loop
+    μ-loop
+    div-n
+    mul-size
+    loop-holds
+    add-next
+    mul-start
+    mul-end
+    mul-first
+    mul-last
+    sub-four-messages
+    part-four-messages-start
+    part-four-messages-end
+    sub-four-messages-2
+    part-four-messages-start-2
+    part-four-messages-end-2
+    sub-four-messages-3
+    part-four-messages-start-3
+    part-four-messages-end-3
+    four-messages-requires
+    loop-less
+    loop-again
+    same-length
+    returns)

@@ -1,0 +1,168 @@
+-- `setup::sender::all_trees` meets its contract: the first i trees have their nodes, and the others their totals still. Assumes nothing.
+use mathlib.Core.Path.{_≡_, refl, sym, ap, _∙_}
+use mathlib.Core.List.{List}
+use Prim.Native.Nat.{ℕ, zero, _+_, _-_, _*_, _%_, _≤_}
+use native.Mathlib.Omega.{arith}
+use lib.ListN.{length, getD, take, drop}
+use native.Mathlib.Nat.{zero-mul}
+use lib.Seq.{take-all, drop-drop}
+use borrow.Rule.Slice.PartMut.{mid-len, drop-put}
+use Rattle.words.specs.Bytes.{concat}
+use Rattle.words.proofs.Concat.{concat-grow, concat-length, part-lt}
+use Rattle.setup.specs.Setup.{treesOf, treePart, nodesFound}
+use Rattle.setup.proofs.Widths.{width-fits, four-fit}
+use Rattle.setup.proofs.Levels.{found-length, four-found}
+use Rattle.setup.proofs.sender.all_trees.Statement.{statement}
+use Rattle.setup.proofs.sender.all_trees.Tie as tie
+
+abbrev Inv-loop : tie.InvT-loop
+Inv-loop k sides siblings₀ n size i₀ siblings i =
+    (i % 4 ≡ 0)
+    × (i ≤ treesOf k)
+    × (length siblings ≡ 4096)
+    × (take (i * (32 * k)) siblings ≡ concat i (λ j. nodesFound (λ l. getD sides (j * k + l) 0) (treePart k 32 j siblings₀) k))
+    × (drop (i * (32 * k)) siblings ≡ drop (i * (32 * k)) siblings₀)
+
+abbrev μ-loop : tie.MeasureT-loop
+μ-loop k sides siblings₀ n size i₀ siblings i = treesOf k - i
+
+div-n : tie.Need-div-n Inv-loop μ-loop
+div-n c = omega (arith, width-fits _ (c .before .before .pre .0) .some)
+
+mul-size : tie.Need-mul-size Inv-loop μ-loop
+mul-size c = omega (arith, width-fits _ (c .before .before .pre .0) .low)
+
+loop-holds : tie.Need-loop-holds Inv-loop μ-loop
+unfolding concat
+loop-holds c = let s = c .before .before in
+    (omega arith, omega arith, s .pre .3, ap (λ (n : ℕ). take n (s .args .siblings .now)) (zero-mul (32 * s .args .k)), refl)
+
+-- four trees from tree i on are within the sides and the siblings
+abbrev Room : ℕ → ℕ → Type 0
+Room k i =
+    (i + 4 ≤ treesOf k)
+    × (treesOf k ≤ 128)
+    × ((i + 4) * (32 * k) ≡ i * (32 * k) + 4 * (32 * k))
+    × ((i + 4) * (32 * k) ≤ 4096)
+    × ((i + 4) * k ≡ i * k + 4 * k)
+    × ((i + 4) * k ≤ 128)
+
+room : (c : tie.In-loop Inv-loop μ-loop) → Room (c .before .before .before .before .args .k) (c .before .loop .i)
+room c =
+    let k = c .before .before .before .before .args .k in
+    let fits = width-fits k (c .before .before .before .before .pre .0) in
+    let four = four-fit k (c .before .loop .i) fits (c .before .loop .inv .0) (c .loop-test .taken) in
+    (four k .0, fits .trees, four (32 * k) .1, omega (arith, four (32 * k) .2, fits .single), four k .1, omega (arith, four k .2, fits .columns))
+
+add-next : tie.Need-add-next Inv-loop μ-loop
+add-next c = omega (arith, room (c))
+
+mul-start : tie.Need-mul-start Inv-loop μ-loop
+mul-start c = omega (arith, room (c))
+
+mul-end : tie.Need-mul-end Inv-loop μ-loop
+mul-end c = omega (arith, room (c))
+
+mul-first : tie.Need-mul-first Inv-loop μ-loop
+mul-first c = omega (arith, room (c))
+
+mul-last : tie.Need-mul-last Inv-loop μ-loop
+mul-last c = omega (arith, room (c))
+
+sub-four-trees : tie.Need-sub-four-trees Inv-loop μ-loop
+sub-four-trees c = omega (arith, room (c))
+
+part-four-trees-start : tie.Need-part-four-trees-start Inv-loop μ-loop
+part-four-trees-start c = omega (arith, room (c))
+
+part-four-trees-end : tie.Need-part-four-trees-end Inv-loop μ-loop
+part-four-trees-end c = omega (arith, room (c), c .before .before .before .before .pre .1)
+
+sub-four-trees-2 : tie.Need-sub-four-trees-2 Inv-loop μ-loop
+sub-four-trees-2 c = omega (arith, room (c .before))
+
+part-four-trees-start-2 : tie.Need-part-four-trees-start-2 Inv-loop μ-loop
+part-four-trees-start-2 c = omega (arith, room (c .before))
+
+part-four-trees-end-2 : tie.Need-part-four-trees-end-2 Inv-loop μ-loop
+part-four-trees-end-2 c = omega (arith, room (c .before), c .before .before .loop .inv .2)
+
+four-trees-requires : tie.Need-four-trees-requires Inv-loop μ-loop
+four-trees-requires c κs = let s = c .before .before .before .before .before .before in
+    let w = c .before .before .before .loop in
+    let here = room (c .before .before) in
+    let fits = width-fits _ (s .pre .0) in
+    let k = s .args .k in
+    let size : (w .i + 4) * (32 * k) - w .i * (32 * k) ≡ 4 * (32 * k) = omega (arith, here) in
+    let size₂ : (w .i + 4) * k - w .i * k ≡ 4 * k = omega (arith, here) in (
+      fits .some,
+      fits .low,
+      mid-len (w .i * k) ((w .i + 4) * k) (s .args .sides .now) (omega (arith, here, s .pre .1)) ∙ size₂,
+      part-lt (w .i * k) ((w .i + 4) * k - w .i * k) (s .args .sides .now) 2 (omega arith) (s .pre .2),
+      mid-len (w .i * (32 * k)) ((w .i + 4) * (32 * k)) (w .siblings) (omega (arith, here, w .inv .2)) ∙ size,
+    )
+
+loop-less : tie.Need-loop-less Inv-loop μ-loop
+loop-less c = omega (arith, room (c .before .before .before .before .before))
+
+loop-again : tie.Need-loop-again Inv-loop μ-loop
+loop-again c = let s = c .before .before .before .before .before .before .before .before .before in
+    let w = c .before .before .before .before .before .before .loop in
+    let here = room (c .before .before .before .before .before) in
+    let k = s .args .k in
+    let m : ℕ = 32 * k in
+    let a : ℕ = w .i * m in
+    let e : ℕ = (w .i + 4) * m in
+    let f : ℕ → List ℕ = λ j. nodesFound (λ l. getD (s .args .sides .now) (j * k + l) 0) (treePart k 32 j (s .args .siblings .now)) k in
+    let turn : k * 32 ≡ m = omega arith in
+    let whole : 4 * m ≡ e - a = omega (arith, here) in
+    let size = concat-length (λ j. f (w .i + j)) m 4 (λ j h. found-length _ _ k ∙ turn) ∙ whole in
+    let made = c .before .before .four-trees .ensures ∙ four-found k (w .i) (s .args .sides .now) (s .args .siblings .now) (w .siblings) (w .inv .4) in
+    let grown = concat-grow f (w .i) 4 a e (w .siblings) _ made size (omega (arith, here)) (omega (arith, here, w .inv .2)) (w .inv .3) in
+    let back : a + (e - a) ≡ e = omega (arith, here) in (
+      omega (arith, w .inv .0),
+      here .0,
+      grown .0 ∙ w .inv .2,
+      grown .1,
+      drop-put a e (w .siblings) (c .before .before .four-trees .last .1 .1 .0) (omega (arith, here)) (omega (arith, here, w .inv .2)) (ap length made ∙ size)
+          ∙ ap (λ (n : ℕ). drop n (w .siblings)) (sym back) ∙ sym (drop-drop (e - a) a (w .siblings)) ∙ ap (drop (e - a)) (w .inv .4) ∙ drop-drop (e - a) a (s .args .siblings .now) ∙ ap (λ (n : ℕ). drop n (s .args .siblings .now)) back,
+    )
+
+same-length : tie.Need-same-length Inv-loop μ-loop
+same-length c = c .before .loop .inv .2 ∙ sym (c .before .before .before .before .pre .3)
+
+returns : tie.Need-returns Inv-loop μ-loop
+returns c = let s = c .before .before .before .before in
+    let w = c .before .loop in
+    let k = s .args .k in
+    let all : w .i ≡ treesOf k = omega (arith, w .inv .1) in
+    let end = ap (λ (i : ℕ). i * (32 * k)) all ∙ width-fits k (s .pre .0) .single in
+    sym (take-all (w .i * (32 * k)) (w .siblings) (omega (arith, end, w .inv .2)))
+    ∙ w .inv .3
+    ∙ ap (λ (i : ℕ). concat i (λ j. nodesFound (λ l. getD (s .args .sides .now) (j * k + l) 0) (treePart k 32 j (s .args .siblings .now)) k)) all
+
+pub all-trees-spec : {M : Type 1} → statement M
+all-trees-spec =
+    tie.close
+    (tie.spec
+    Inv-loop
+    μ-loop
+    div-n
+    mul-size
+    loop-holds
+    add-next
+    mul-start
+    mul-end
+    mul-first
+    mul-last
+    sub-four-trees
+    part-four-trees-start
+    part-four-trees-end
+    sub-four-trees-2
+    part-four-trees-start-2
+    part-four-trees-end-2
+    four-trees-requires
+    loop-less
+    loop-again
+    same-length
+    returns)

@@ -1,0 +1,60 @@
+-- `setup::sender::lane_sides` meets its contract. Assumes nothing.
+use mathlib.Core.Path.{_≡_, ap₂}
+use mathlib.Core.List.{[], _∷_}
+use Prim.Native.Nat.{ℕ, _+_, _-_, _*_}
+use native.Mathlib.Omega.{arith}
+use lib.ListN.{getD}
+use Rattle.words.specs.Bytes.{tabulate}
+use borrow.Author.Needs.{needs}
+use Rattle.setup.proofs.sender.lane_sides.Statement.{statement}
+use Rattle.setup.proofs.sender.lane_sides.Tie as tie
+
+shared-slice-read-t5 : tie.Need-shared-slice-read-t5
+shared-slice-read-t5 c = search needs
+
+add-t6 : tie.Need-add-t6
+add-t6 c = search needs
+
+shared-slice-read-t8 : tie.Need-shared-slice-read-t8
+shared-slice-read-t8 c = search needs
+
+mul-t9 : tie.Need-mul-t9
+mul-t9 c = search needs
+
+add-t10 : tie.Need-add-t10
+add-t10 c = search needs
+
+shared-slice-read-t12 : tie.Need-shared-slice-read-t12
+shared-slice-read-t12 c = search needs
+
+mul-t13 : tie.Need-mul-t13
+mul-t13 c = search needs
+
+add-t14 : tie.Need-add-t14
+add-t14 c = search needs
+
+shared-slice-read-t16 : tie.Need-shared-slice-read-t16
+shared-slice-read-t16 c = search needs
+
+returns : tie.Need-returns
+unfolding tabulate
+returns c = let a = c .before .before .before .before .args in
+    let at : ℕ → ℕ → ℕ = λ i j. getD (a .sides .now) (i + a .level) 0 in
+    let first : a .level ≡ 0 * a .k + a .level = omega arith in
+    let second : a .k ≡ 1 * a .k = omega arith in
+    ap₂ (λ (i j : ℕ). getD (a .sides .now) i 0 ∷ getD (a .sides .now) (j + a .level) 0 ∷ getD (a .sides .now) (2 * a .k + a .level) 0 ∷ getD (a .sides .now) (3 * a .k + a .level) 0 ∷ []) first second
+
+pub lane-sides-spec : {M : Type 1} → statement M
+lane-sides-spec =
+    tie.close
+    (tie.spec
+    shared-slice-read-t5
+    add-t6
+    shared-slice-read-t8
+    mul-t9
+    add-t10
+    shared-slice-read-t12
+    mul-t13
+    add-t14
+    shared-slice-read-t16
+    returns)

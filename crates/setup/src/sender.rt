@@ -1,0 +1,192 @@
+// The sender's siblings. Delta enters as a side for each base transfer, and a side as a mask: never a branch or an address.
+ghost use mathlib.Core.Path.{_≡_};
+ghost use mathlib.Core.Bool.{true};
+ghost use Prim.Native.Nat.{ℕ, _+_, _-_, _*_, _/_, _%_, _^_, _≤_, _<_};
+ghost use lib.ListN.{length, getD};
+ghost use Rattle.words.specs.Bytes.{tabulate, part, concat};
+ghost use Rattle.words.specs.Lanes.{laneBytes};
+ghost use Rattle.words.specs.Xor.{_⊕_, xorEach, xorPart};
+ghost use Rattle.answer.specs.Answer.{widthAllowed};
+ghost use Rattle.tree.specs.Lanes.{totalWord};
+ghost use Rattle.setup.specs.Setup.{columns, treesOf, deltaOf, sideOf, treePart, unmasked, nodesFound, siblingsOf};
+
+// For each base transfer the side whose total the sender can unmask. (Kept in memory, where the compiler can't see that it is a bit:
+// a mask made of a bit that it can see becomes a branch again.)
+fn sides(k: usize, delta: &[u8]) -> [u8; 128]
+    requires { ⌜ (widthAllowed k ≡ true) × (length (now delta) ≡ 16) ⌝ }
+    ensures { λ r. ⌜ r ≡ tabulate columns (λ c. sideOf k (deltaOf k (now (delta .entry)) (c / k)) (c % k)) ⌝ }
+{
+    let mut r = [0u8; 128];
+    let mut c = 0;
+    let mut level = 0;
+    while c < 128 {
+        let highest = c + k - 1;
+        r[c] = 1 - words::bit(delta, highest - 2 * level);
+        c += 1;
+        level += 1;
+        if level == k {
+            level = 0;
+        }
+    }
+    r
+}
+
+// All ones for side 1, and 0 for side 0.
+fn mask(side: u8) -> u32
+    requires { ⌜ side < 2 ⌝ }
+    ensures { λ r. ⌜ r ≡ side * (2 ^ 32 - 1) ⌝ }
+{
+    std::num::wrapping_sub_u32(0, side as u32)
+}
+
+// Fills out with one side's total of two, unmasked by a pad.
+fn unmask(out: &mut [u8], totals: &[u8], pad: &[u8], side: u8)
+    requires { ⌜ (length (now out) ≡ 32) × (length (now totals) ≡ 64) × (length (now pad) ≡ 32) × (side < 2) ⌝ }
+    ensures { λ _. ⌜ now (out .exit) ≡ tabulate 32 (λ j. getD (now (totals .entry)) (32 * side + j) 0 ⊕ getD (now (pad .entry)) j 0) ⌝ }
+{
+    let ones = (mask(side) % 256) as u8;
+    let mut j = 0;
+    while j < 32 {
+        let left = totals[j];
+        out[j] = left ^ ((left ^ totals[32 + j]) & ones) ^ pad[j];
+        j += 1;
+    }
+}
+
+// The unmasked totals of all base transfers.
+fn unmask_all(sides: &[u8], pads: &[u8], message: &[u8], siblings: &mut [u8])
+    requires { ⌜ (length (now sides) ≡ 128) × ((c : ℕ) → getD (now sides) c 0 < 2) ⌝ }
+    requires { ⌜ (length (now pads) ≡ 4096) × (length (now message) ≡ 8192) × (length (now siblings) ≡ 4096) ⌝ }
+    ensures { λ _. ⌜ now (siblings .exit) ≡ unmasked columns (λ c. getD (now (sides .entry)) c 0) (now (message .entry)) (now (pads .entry)) ⌝ }
+{
+    let mut c = 0;
+    while c < 128 {
+        let start = 32 * c;
+        let end = start + 32;
+        let from = 64 * c;
+        let to = from + 64;
+        unmask(
+            &mut siblings[start..end],
+            &message[from..to],
+            &pads[start..end],
+            sides[c],
+        );
+        c += 1;
+    }
+}
+
+// Adds to four nodes one side each of four levels' totals.
+fn take_off(nodes: &mut [u32], totals: &[u32], sides: [u8; 4])
+    requires { ⌜ (length (now nodes) ≡ 32) × (length (now totals) ≡ 64) × ((l : ℕ) → getD sides l 0 < 2) ⌝ }
+    ensures { λ _. ⌜ now (nodes .exit) ≡ xorEach (now (nodes .entry)) (λ i. getD (now (totals .entry)) (32 * getD sides (i % 4) 0 + i) 0) ⌝ }
+{
+    let mut i = 0;
+    while i < 32 {
+        let left = totals[i];
+        let ones = mask(sides[i % 4]);
+        nodes[i] = nodes[i] ^ (left ^ ((left ^ totals[32 + i]) & ones));
+        i += 1;
+    }
+}
+
+// The sides of four trees of k levels at a level.
+fn lane_sides(k: usize, level: usize, sides: &[u8]) -> [u8; 4]
+    requires { ⌜ (level < k) × (length (now sides) ≡ 4 * k) ⌝ }
+    ensures { λ r. ⌜ r ≡ tabulate 4 (λ i. getD (now (sides .entry)) (i * k + level) 0) ⌝ }
+{
+    [
+        sides[level],
+        sides[k + level],
+        sides[2 * k + level],
+        sides[3 * k + level],
+    ]
+}
+
+// From the nodes found at a level to those of the next, in four trees of k levels: t has what the nodes found above it make at each
+// level, s the nodes found so far and the unmasked totals of the levels after them.
+fn next_level(k: usize, level: usize, sides: &[u8], t: &mut [u32], s: &mut [u32])
+    requires { ⌜ (level + 1 < k) × (k ≤ 8) × (length (now sides) ≡ 4 * k) × ((c : ℕ) → getD (now sides) c 0 < 2) ⌝ }
+    requires { ⌜ (length (now t) ≡ 64 * k) × (length (now s) ≡ 32 * k) ⌝ }
+    ensures { λ _. ⌜ now (t .exit) ≡ xorPart (now (t .entry)) (64 * (level + 1)) (64 * (k - 1 - level)) (totalWord (part (32 * level) 32 (now (s .entry)))) ⌝ }
+    ensures { λ _. ⌜ now (s .exit) ≡ xorPart (now (s .entry)) (32 * (level + 1)) 32 (λ i. getD (now (t .exit)) (64 * (level + 1) + (32 * getD (now (sides .entry)) (i % 4 * k + (level + 1)) 0 + i)) 0) ⌝ }
+{
+    let next = level + 1;
+    let nodes = tree::nodes_at(s, 32 * level);
+    let below = 64 * next;
+    tree::totals(&nodes, k - next, &mut t[below..]);
+    let first = 32 * next;
+    let last = first + 32;
+    let end = below + 64;
+    take_off(
+        &mut s[first..last],
+        &t[below..end],
+        lane_sides(k, next, sides),
+    );
+}
+
+// All levels of four trees of k levels.
+fn all_levels(k: usize, sides: &[u8], t: &mut [u32], s: &mut [u32])
+    requires { ⌜ (0 < k) × (k ≤ 8) × (length (now sides) ≡ 4 * k) × ((c : ℕ) → getD (now sides) c 0 < 2) ⌝ }
+    requires { ⌜ (length (now t) ≡ 64 * k) × (length (now s) ≡ 32 * k) × ((i : ℕ) → getD (now t) i 0 ≡ 0) ⌝ }
+    ensures { λ _. ⌜ ((i : ℕ) → i < 4 → laneBytes i (8 * k) (now (s .exit)) ≡ nodesFound (λ l. getD (now (sides .entry)) (i * k + l) 0) (laneBytes i (8 * k) (now (s .entry))) k) ⌝ }
+{
+    let mut level = 0;
+    while level + 1 < k {
+        next_level(k, level, sides, t, s);
+        level += 1;
+    }
+}
+
+// The siblings of four trees of k levels, in the place of their unmasked totals. t and s are for work: t is zero.
+fn four_in_lanes(k: usize, sides: &[u8], siblings: &mut [u8], t: &mut [u32], s: &mut [u32])
+    requires { ⌜ (0 < k) × (k ≤ 8) × (length (now sides) ≡ 4 * k) × ((c : ℕ) → getD (now sides) c 0 < 2) × (length (now siblings) ≡ 4 * (32 * k)) ⌝ }
+    requires { ⌜ (length (now t) ≡ 64 * k) × (length (now s) ≡ 32 * k) × ((i : ℕ) → getD (now t) i 0 ≡ 0) ⌝ }
+    ensures { λ _. ⌜ now (siblings .exit) ≡ concat 4 (λ i. nodesFound (λ l. getD (now (sides .entry)) (i * k + l) 0) (treePart k 32 i (now (siblings .entry))) k) ⌝ }
+{
+    words::load_lanes(s, siblings);
+    all_levels(k, sides, t, s);
+    words::store_lanes(siblings, s);
+}
+
+fn four_trees(k: usize, sides: &[u8], siblings: &mut [u8])
+    requires { ⌜ (0 < k) × (k ≤ 8) × (length (now sides) ≡ 4 * k) × ((c : ℕ) → getD (now sides) c 0 < 2) × (length (now siblings) ≡ 4 * (32 * k)) ⌝ }
+    ensures { λ _. ⌜ now (siblings .exit) ≡ concat 4 (λ i. nodesFound (λ l. getD (now (sides .entry)) (i * k + l) 0) (treePart k 32 i (now (siblings .entry))) k) ⌝ }
+{
+    let m = 64 * k;
+    let n = 32 * k;
+    let mut t = [0u32; 512];
+    let mut s = [0u32; 256];
+    four_in_lanes(k, sides, siblings, &mut t[0..m], &mut s[0..n]);
+}
+
+// The siblings of all trees, in the place of their unmasked totals.
+fn all_trees(k: usize, sides: &[u8], siblings: &mut [u8])
+    requires { ⌜ (widthAllowed k ≡ true) × (length (now sides) ≡ 128) × ((c : ℕ) → getD (now sides) c 0 < 2) × (length (now siblings) ≡ 4096) ⌝ }
+    ensures { λ _. ⌜ now (siblings .exit) ≡ concat (treesOf k) (λ i. nodesFound (λ l. getD (now (sides .entry)) (i * k + l) 0) (treePart k 32 i (now (siblings .entry))) k) ⌝ }
+{
+    let n = 128 / k;
+    let size = 32 * k;
+    let mut i = 0;
+    while i < n {
+        let next = i + 4;
+        let start = i * size;
+        let end = next * size;
+        let first = i * k;
+        let last = next * k;
+        four_trees(k, &sides[first..last], &mut siblings[start..end]);
+        i = next;
+    }
+}
+
+// The siblings of all trees, from the pads that the sender has and a message.
+pub fn find_siblings(k: usize, delta: &[u8], pads: &[u8], message: &[u8], siblings: &mut [u8])
+    requires { ⌜ (widthAllowed k ≡ true) × (length (now delta) ≡ 16) × (length (now pads) ≡ 4096) × (length (now message) ≡ 8192) × (length (now siblings) ≡ 4096) ⌝ }
+    ensures { λ _. ⌜ now (siblings .exit) ≡ siblingsOf k (now (delta .entry)) (now (pads .entry)) (now (message .entry)) ⌝ }
+{
+    let side = sides(k, delta);
+    unmask_all(&side, pads, message, siblings);
+    // where a tree has one level there is nothing to take off
+    if k > 1 {
+        all_trees(k, &side, siblings);
+    }
+}
