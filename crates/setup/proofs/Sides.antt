@@ -33,19 +33,23 @@ chosen w t j side mask ha hb hs e =
 
 -- ---- the bit of delta that a base transfer goes by
 
--- base transfer c stands at level c % k of tree c / k: its path bit is bit c + k - 1 - 2 (c % k) of delta
+-- base transfer c stands at level c % k of tree c / k: its path bit is bit k - 1 - c % k of those that begin at c - c % k
 pub side-bit : (k : ℕ) → widthAllowed k ≡ true → (delta : List ℕ) (c : ℕ)
-    → 1 - bitAt delta (c + k - 1 - 2 * (c % k)) ≡ sideOf k (deltaOf k delta (c / k)) (c % k)
+    → 1 - bitAt delta (c - c % k + (k - 1 - c % k)) ≡ sideOf k (deltaOf k delta (c / k)) (c % k)
 side-bit k h delta c =
-    ap (λ (i : ℕ). 1 - bitAt delta i) (place k h c)
-    ∙ ap (λ (b : ℕ). 1 - b) (sym (ofBits-bit k (λ b. bitAt delta (c / k * k + b)) (λ b. bit-lt _ _) (k - 1 - c % k) (low k h c)))
+    ap (λ (i : ℕ). 1 - bitAt delta (i + (k - 1 - c % k))) (first k h c)
+    ∙ ap (λ (b : ℕ). 1 - b)
+    (sym (ofBits-bit k (λ b. bitAt delta (c / k * k + b)) (λ b. bit-lt _ _) (k - 1 - c % k) (low k h c)))
   where
-    place : (k : ℕ) → widthAllowed k ≡ true → (c : ℕ) → c + k - 1 - 2 * (c % k) ≡ c / k * k + (k - 1 - c % k)
-    place = width-cases (λ (k : ℕ). (c : ℕ) → c + k - 1 - 2 * (c % k) ≡ c / k * k + (k - 1 - c % k))
+    first : (k : ℕ) → widthAllowed k ≡ true → (c : ℕ) → c - c % k ≡ c / k * k
+    first =
+        width-cases (λ (k : ℕ). (c : ℕ) → c - c % k ≡ c / k * k)
         (λ c. omega arith) (λ c. omega arith) (λ c. omega arith) (λ c. omega arith)
 
     low : (k : ℕ) → widthAllowed k ≡ true → (c : ℕ) → k - 1 - c % k < k
-    low = width-cases (λ (k : ℕ). (c : ℕ) → k - 1 - c % k < k) (λ c. omega arith) (λ c. omega arith) (λ c. omega arith) (λ c. omega arith)
+    low =
+        width-cases (λ (k : ℕ). (c : ℕ) → k - 1 - c % k < k)
+        (λ c. omega arith) (λ c. omega arith) (λ c. omega arith) (λ c. omega arith)
 
 pub side-lt : (k d l : ℕ) → sideOf k d l < 2
 side-lt k d l = omega arith
@@ -54,9 +58,9 @@ side-lt k d l = omega arith
 
 -- the bit's place is inside delta
 pub level-fits : (k : ℕ) → widthAllowed k ≡ true → (c : ℕ) → c < 128
-    → (0 < k) × (k ≤ 8) × (c % k < k) × (2 * (c % k) ≤ c + k - 1) × (c + k - 1 - 2 * (c % k) < 128)
+    → (0 < k) × (k ≤ 8) × (c % k < k) × (c % k ≤ c) × (c - c % k + (k - 1 - c % k) < 128)
 level-fits =
-    width-cases (λ (k : ℕ). (c : ℕ) → c < 128 → (0 < k) × (k ≤ 8) × (c % k < k) × (2 * (c % k) ≤ c + k - 1) × (c + k - 1 - 2 * (c % k) < 128))
+    width-cases (λ (k : ℕ). (c : ℕ) → c < 128 → (0 < k) × (k ≤ 8) × (c % k < k) × (c % k ≤ c) × (c - c % k + (k - 1 - c % k) < 128))
     (λ c h. omega arith) (λ c h. omega arith) (λ c h. omega arith) (λ c h. omega arith)
 
 pub level-first : (k : ℕ) → widthAllowed k ≡ true → 0 ≡ 0 % k

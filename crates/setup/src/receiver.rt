@@ -1,11 +1,31 @@
 // The receiver's message, four trees at a time.
+use answer::Answer;
 ghost use mathlib.Core.Path.{_≡_};
 ghost use mathlib.Core.Bool.{true};
 ghost use Prim.Native.Nat.{_*_, _≤_};
 ghost use lib.ListN.{length};
 ghost use Rattle.words.specs.Bytes.{concat};
 ghost use Rattle.answer.specs.Answer.{widthAllowed};
-ghost use Rattle.setup.specs.Setup.{treesOf, rootOf, treePart, treeMessage, messageOf};
+ghost use Rattle.setup.specs.Setup.{treesOf, rootOf, treePart, treeMessage, messageOf, receiverSetupAnswer};
+
+// The answer of the receiver's setup, from its width and the lengths of its ranges.
+pub fn setup_answer(width: u32, roots: usize, pads: usize, message: usize) -> Answer
+    ensures { λ r. ⌜ r ≡ receiverSetupAnswer width roots pads message ⌝ }
+{
+    if !answer::width_allowed(width) {
+        return Answer::Width;
+    }
+    if roots != 32 * (128 / (width as usize)) {
+        return Answer::Length;
+    }
+    if pads != 8192 {
+        return Answer::Length;
+    }
+    if message != 8192 {
+        return Answer::Length;
+    }
+    Answer::Done
+}
 
 // The messages of four trees of k levels, from their roots and base pads.
 fn four_messages(k: usize, roots: &[u8], pads: &[u8], message: &mut [u8])

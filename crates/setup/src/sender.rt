@@ -1,4 +1,5 @@
 // The sender's siblings. Delta enters as a side for each base transfer, and a side as a mask: never a branch or an address.
+use answer::Answer;
 ghost use mathlib.Core.Path.{_≡_};
 ghost use mathlib.Core.Bool.{true};
 ghost use Prim.Native.Nat.{ℕ, _+_, _-_, _*_, _/_, _%_, _^_, _≤_, _<_};
@@ -8,7 +9,35 @@ ghost use Rattle.words.specs.Lanes.{laneBytes};
 ghost use Rattle.words.specs.Xor.{_⊕_, xorEach, xorPart};
 ghost use Rattle.answer.specs.Answer.{widthAllowed};
 ghost use Rattle.tree.specs.Lanes.{totalWord};
-ghost use Rattle.setup.specs.Setup.{columns, treesOf, deltaOf, sideOf, treePart, unmasked, nodesFound, siblingsOf};
+ghost use Rattle.setup.specs.Setup.{columns, treesOf, deltaOf, sideOf, treePart, unmasked, nodesFound, siblingsOf, senderSetupAnswer};
+
+// The answer of the sender's setup, from its width and the lengths of its ranges.
+pub fn setup_answer(
+    width: u32,
+    delta: usize,
+    pads: usize,
+    message: usize,
+    siblings: usize,
+) -> Answer
+    ensures { λ r. ⌜ r ≡ senderSetupAnswer width delta pads message siblings ⌝ }
+{
+    if !answer::width_allowed(width) {
+        return Answer::Width;
+    }
+    if delta != 16 {
+        return Answer::Length;
+    }
+    if pads != 4096 {
+        return Answer::Length;
+    }
+    if message != 8192 {
+        return Answer::Length;
+    }
+    if siblings != 4096 {
+        return Answer::Length;
+    }
+    Answer::Done
+}
 
 // For each base transfer the side whose total the sender can unmask. (Kept in memory, where the compiler can't see that it is a bit:
 // a mask made of a bit that it can see becomes a branch again.)
@@ -20,8 +49,9 @@ fn sides(k: usize, delta: &[u8]) -> [u8; 128]
     let mut c = 0;
     let mut level = 0;
     while c < 128 {
-        let highest = c + k - 1;
-        r[c] = 1 - words::bit(delta, highest - 2 * level);
+        let tree = c - level;
+        let highest = k - 1 - level;
+        r[c] = 1 - words::bit(delta, tree + highest);
         c += 1;
         level += 1;
         if level == k {

@@ -28,7 +28,7 @@ pub fn xor_words(dst: &mut [u32], src: &[u32])
 {
     let mut i = 0;
     while i < dst.len() {
-        dst[i] = dst[i] ^ src[i];
+        dst[i] ^= src[i];
         i += 1;
     }
 }

@@ -12,13 +12,13 @@ use borrow.Author.Needs.{needs}
 use Rattle.setup.proofs.receiver_setup.Statement.{statement}
 use Rattle.setup.proofs.receiver_setup.Tie as tie
 
-receiver-setup-answer-requires : tie.Need-receiver-setup-answer-requires
-receiver-setup-answer-requires c κs = search needs
+setup-answer-requires : tie.Need-setup-answer-requires
+setup-answer-requires c κs = search needs
 
 enum-told : tie.Need-enum-told
 enum-told c = search needs
 
-done : (c : tie.At-match-keys1) → c .before .receiver-setup-answer .result ≡ Done
+done : (c : tie.At-match-keys1) → c .before .setup-answer .result ≡ Done
 done c = is-done _ (c .match .keys1)
 
 -- what an answer of Done tells
@@ -32,7 +32,7 @@ allowed k roots pads message e =
     (width .0, eqb-true _ _ (lengths .0), eqb-true _ _ (rest .0), eqb-true _ _ (rest .1))
 
 write-message-requires : tie.Need-write-message-requires
-write-message-requires c κs = allowed _ _ _ _ (sym (c .before .before .before .receiver-setup-answer .ensures) ∙ done (c .before .before))
+write-message-requires c κs = allowed _ _ _ _ (sym (c .before .before .before .setup-answer .ensures) ∙ done (c .before .before))
 
 same-length : tie.Need-same-length
 same-length c = search needs
@@ -40,22 +40,22 @@ same-length c = search needs
 returns : tie.Need-returns
 returns c =
     let b = c .before .before .before .before .before in
-    record { answered = b .before .receiver-setup-answer .ensures; written = c .before .before .write-message .ensures ∙ rw (done b) }
+    record { answered = b .before .setup-answer .ensures; written = c .before .before .write-message .ensures ∙ rw (done b) }
 
 returns-2 : tie.Need-returns-2
 returns-2 c =
     let a = c .before .before .before .before .before .args in
     let message = messageOf (a .width) (now (a .roots)) (now (a .base-pads)) in
     record {
-      answered = c .before .receiver-setup-answer .ensures;
-      written = not-done (c .before .receiver-setup-answer .result) message (now (a .message)) (c .match .keys2);
+      answered = c .before .setup-answer .ensures;
+      written = not-done (c .before .setup-answer .result) message (now (a .message)) (c .match .keys2);
     }
 
 pub receiver-setup-spec : {M : Type 1} → statement M
 receiver-setup-spec =
     tie.close
     (tie.spec
-    receiver-setup-answer-requires
+    setup-answer-requires
     enum-told
     write-message-requires
     same-length

@@ -12,13 +12,13 @@ use borrow.Author.Needs.{needs}
 use Rattle.setup.proofs.sender_setup.Statement.{statement}
 use Rattle.setup.proofs.sender_setup.Tie as tie
 
-sender-setup-answer-requires : tie.Need-sender-setup-answer-requires
-sender-setup-answer-requires c κs = search needs
+setup-answer-requires : tie.Need-setup-answer-requires
+setup-answer-requires c κs = search needs
 
 enum-told : tie.Need-enum-told
 enum-told c = search needs
 
-done : (c : tie.At-match-keys1) → c .before .sender-setup-answer .result ≡ Done
+done : (c : tie.At-match-keys1) → c .before .setup-answer .result ≡ Done
 done c = is-done _ (c .match .keys1)
 
 -- what an answer of Done tells
@@ -33,28 +33,28 @@ allowed k delta pads message siblings e =
     (width .0, eqb-true _ _ (first .0), eqb-true _ _ (second .0), eqb-true _ _ (third .0), eqb-true _ _ (third .1))
 
 find-siblings-requires : tie.Need-find-siblings-requires
-find-siblings-requires c κs = allowed _ _ _ _ _ (sym (c .before .before .before .sender-setup-answer .ensures) ∙ done (c .before .before))
+find-siblings-requires c κs = allowed _ _ _ _ _ (sym (c .before .before .before .setup-answer .ensures) ∙ done (c .before .before))
 
 same-length : tie.Need-same-length
 same-length c = search needs
 
 returns : tie.Need-returns
 returns c = let b = c .before .before .before .before .before in
-    record { answered = b .before .sender-setup-answer .ensures; written = c .before .before .find-siblings .ensures ∙ rw (done b) }
+    record { answered = b .before .setup-answer .ensures; written = c .before .before .find-siblings .ensures ∙ rw (done b) }
 
 returns-2 : tie.Need-returns-2
 returns-2 c = let a = c .before .before .before .before .before .before .args in
     let siblings = siblingsOf (a .width) (now (a .delta)) (now (a .base-pads)) (now (a .message)) in
     record {
-      answered = c .before .sender-setup-answer .ensures;
-      written = not-done (c .before .sender-setup-answer .result) siblings (now (a .siblings)) (c .match .keys2);
+      answered = c .before .setup-answer .ensures;
+      written = not-done (c .before .setup-answer .result) siblings (now (a .siblings)) (c .match .keys2);
     }
 
 pub sender-setup-spec : {M : Type 1} → statement M
 sender-setup-spec =
     tie.close
     (tie.spec
-    sender-setup-answer-requires
+    setup-answer-requires
     enum-told
     find-siblings-requires
     same-length

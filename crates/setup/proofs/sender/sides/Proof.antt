@@ -1,6 +1,6 @@
 -- `setup::sender::sides` meets its contract: the sides below c are those of their base transfers; `level` is c's. Assumes nothing.
 use mathlib.Core.Path.{_≡_, sym, ap, _∙_}
-use Prim.Native.Nat.{ℕ, _+_, _-_, _*_, _/_, _%_, _≤_}
+use Prim.Native.Nat.{ℕ, _+_, _-_, _/_, _%_, _≤_}
 use native.Mathlib.Omega.{arith}
 use lib.ListN.{length, length-replicate}
 use Rattle.words.specs.Bytes.{tabulate}
@@ -23,17 +23,17 @@ loop-holds c = let s = c .before in
     let f : ℕ → ℕ = λ b. sideOf (s .args .k) (deltaOf (s .args .k) (s .args .delta .now) (b / s .args .k)) (b % s .args .k) in
     (omega arith, level-first _ (s .pre .0), begun-none (tabulate 128 f) _ (length-replicate {A = ℕ} 128 0 ∙ sym (tabulate-length 128 f)))
 
-add-highest : tie.Need-add-highest Inv-loop μ-loop
-add-highest c = let fits = level-fits _ (c .before .before .before .pre .0) (c .before .loop .c) (c .loop-test .taken) in omega (arith, fits)
+sub-tree : tie.Need-sub-tree Inv-loop μ-loop
+sub-tree c = let fits = level-fits _ (c .before .before .before .pre .0) (c .before .loop .c) (c .loop-test .taken) in omega (arith, fits, c .before .loop .inv .1)
 
 sub-highest : tie.Need-sub-highest Inv-loop μ-loop
-sub-highest c = let fits = level-fits _ (c .before .before .before .pre .0) (c .before .loop .c) (c .loop-test .taken) in omega (arith, fits)
+sub-highest c = let fits = level-fits _ (c .before .before .before .pre .0) (c .before .loop .c) (c .loop-test .taken) in omega (arith, fits, c .before .loop .inv .1)
 
-mul-bit : tie.Need-mul-bit Inv-loop μ-loop
-mul-bit c = let fits = level-fits _ (c .before .before .before .pre .0) (c .before .loop .c) (c .loop-test .taken) in omega (arith, fits, c .before .loop .inv .1)
+sub-highest-2 : tie.Need-sub-highest-2 Inv-loop μ-loop
+sub-highest-2 c = let fits = level-fits _ (c .before .before .before .pre .0) (c .before .loop .c) (c .loop-test .taken) in omega (arith, fits, c .before .loop .inv .1)
 
-sub-bit : tie.Need-sub-bit Inv-loop μ-loop
-sub-bit c = let fits = level-fits _ (c .before .before .before .pre .0) (c .before .loop .c) (c .loop-test .taken) in omega (arith, fits, c .before .loop .inv .1)
+add-bit : tie.Need-add-bit Inv-loop μ-loop
+add-bit c = let fits = level-fits _ (c .before .before .before .pre .0) (c .before .loop .c) (c .loop-test .taken) in omega (arith, fits, c .before .loop .inv .1)
 
 bit-requires : tie.Need-bit-requires Inv-loop μ-loop
 bit-requires c κs = let fits = level-fits _ (c .before .before .before .pre .0) (c .before .loop .c) (c .loop-test .taken) in omega (arith, fits, c .before .loop .inv .1, c .before .before .before .pre .1)
@@ -57,7 +57,7 @@ loop-again : tie.Need-loop-again Inv-loop μ-loop
 loop-again c = let s = c .before .before .before .before .before in
     let f : ℕ → ℕ = λ b. sideOf (s .args .k) (deltaOf (s .args .k) (s .args .delta .now) (b / s .args .k)) (b % s .args .k) in
     let w = c .before .before .before .loop in
-    let here = c .before .bit .ensures ∙ ap (λ (l : ℕ). bitAt (s .args .delta .now) (w .c + s .args .k - 1 - 2 * l)) (w .inv .1) in (
+    let here = c .before .bit .ensures ∙ ap (λ (l : ℕ). bitAt (s .args .delta .now) (w .c - l + (s .args .k - 1 - l))) (w .inv .1) in (
       omega arith,
       level-wraps _ (s .pre .0) (w .c) (ap (λ (l : ℕ). l + 1) (sym (w .inv .1)) ∙ c .if1 .taken),
       begun-set (w .c) _ (tabulate 128 f) _ (omega (arith, tabulate-length 128 f)) (ap (λ (b : ℕ). 1 - b) here ∙ side-bit (s .args .k) (s .pre .0) (s .args .delta .now) (w .c) ∙ sym (tabulate-at 128 f (w .c) (omega arith))) (w .inv .2),
@@ -70,7 +70,7 @@ loop-again-2 : tie.Need-loop-again-2 Inv-loop μ-loop
 loop-again-2 c = let s = c .before .before .before .before .before in
     let f : ℕ → ℕ = λ b. sideOf (s .args .k) (deltaOf (s .args .k) (s .args .delta .now) (b / s .args .k)) (b % s .args .k) in
     let w = c .before .before .before .loop in
-    let here = c .before .bit .ensures ∙ ap (λ (l : ℕ). bitAt (s .args .delta .now) (w .c + s .args .k - 1 - 2 * l)) (w .inv .1) in (
+    let here = c .before .bit .ensures ∙ ap (λ (l : ℕ). bitAt (s .args .delta .now) (w .c - l + (s .args .k - 1 - l))) (w .inv .1) in (
       omega arith,
       ap (λ (l : ℕ). l + 1) (w .inv .1) ∙ level-next _ (s .pre .0) (w .c) (λ e. c .if1 .left (ap (λ (l : ℕ). l + 1) (w .inv .1) ∙ e)),
       begun-set (w .c) _ (tabulate 128 f) _ (omega (arith, tabulate-length 128 f)) (ap (λ (b : ℕ). 1 - b) here ∙ side-bit (s .args .k) (s .pre .0) (s .args .delta .now) (w .c) ∙ sym (tabulate-at 128 f (w .c) (omega arith))) (w .inv .2),
@@ -89,10 +89,10 @@ sides-spec =
     Inv-loop
     μ-loop
     loop-holds
-    add-highest
+    sub-tree
     sub-highest
-    mul-bit
-    sub-bit
+    sub-highest-2
+    add-bit
     bit-requires
     sub-r
     array-write-r

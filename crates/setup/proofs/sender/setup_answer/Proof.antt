@@ -1,4 +1,4 @@
--- `setup::sender_setup_answer` meets its contract: each answer is the first test that failed. Assumes nothing.
+-- `setup::sender::setup_answer` meets its contract: each answer is the first test that failed. Assumes nothing.
 use mathlib.Core.Path.{_≡_, sym, _∙_}
 use mathlib.Core.Bool.{true}
 use borrow.Author.Tests.{eq-eqb, ne-eqb, not-true, not-false}
@@ -6,8 +6,8 @@ use Rattle.answer.specs.Answer.{widthAllowed}
 use Rattle.answer.proofs.Laws.{passed, failed, both-yes, both-first, both-second}
 use Rattle.setup.specs.Setup.{senderSetupAnswer}
 use borrow.Author.Needs.{needs}
-use Rattle.setup.proofs.sender_setup_answer.Statement.{statement}
-use Rattle.setup.proofs.sender_setup_answer.Tie as tie
+use Rattle.setup.proofs.sender.setup_answer.Statement.{statement}
+use Rattle.setup.proofs.sender.setup_answer.Tie as tie
 
 width-allowed-requires : tie.Need-width-allowed-requires
 width-allowed-requires c κs = search needs
@@ -60,7 +60,7 @@ returns-6 c =
     (both-yes _ _ (eq-eqb _ _ (c .before .before .if3 .left))
     (both-yes _ _ (eq-eqb _ _ (c .before .if4 .left)) (eq-eqb _ _ (c .if5 .left))))))
 
-pub sender-setup-answer-spec : {M : Type 1} → statement M
-sender-setup-answer-spec =
+pub setup-answer-spec : {M : Type 1} → statement M
+setup-answer-spec =
     tie.close
     (tie.spec width-allowed-requires returns returns-2 returns-3 returns-4 returns-5 returns-6)

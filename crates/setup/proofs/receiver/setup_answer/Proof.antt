@@ -1,4 +1,4 @@
--- `setup::receiver_setup_answer` meets its contract: each answer is the first test that failed. Assumes nothing.
+-- `setup::receiver::setup_answer` meets its contract: each answer is the first test that failed. Assumes nothing.
 use mathlib.Core.Path.{_≡_, sym, _∙_}
 use mathlib.Core.Bool.{true}
 use native.Mathlib.Omega.{arith}
@@ -8,8 +8,8 @@ use Rattle.answer.proofs.Laws.{passed, failed, both-yes, both-first, both-secon
 use Rattle.setup.specs.Setup.{receiverSetupAnswer}
 use Rattle.setup.proofs.Widths.{width-fits}
 use borrow.Author.Needs.{needs}
-use Rattle.setup.proofs.receiver_setup_answer.Statement.{statement}
-use Rattle.setup.proofs.receiver_setup_answer.Tie as tie
+use Rattle.setup.proofs.receiver.setup_answer.Statement.{statement}
+use Rattle.setup.proofs.receiver.setup_answer.Tie as tie
 
 width-allowed-requires : tie.Need-width-allowed-requires
 width-allowed-requires c κs = search needs
@@ -55,8 +55,8 @@ returns-5 c =
     ∙ passed _ _ _
     (both-yes _ _ (eq-eqb _ _ (c .before .before .if2 .left)) (both-yes _ _ (eq-eqb _ _ (c .before .if3 .left)) (eq-eqb _ _ (c .if4 .left)))))
 
-pub receiver-setup-answer-spec : {M : Type 1} → statement M
-receiver-setup-answer-spec =
+pub setup-answer-spec : {M : Type 1} → statement M
+setup-answer-spec =
     tie.close
     (tie.spec
     width-allowed-requires
