@@ -12,6 +12,7 @@ import sys
 import chacha20
 import gf64
 import published
+import setup
 import sha256
 
 ROOT = pathlib.Path(__file__).resolve().parent.parent
@@ -98,6 +99,21 @@ def vectors():
     return v
 
 
+def host_cases():
+    """What tests/host lends to both setups and what they must write. At each width: roots, base pads and the message; delta, the
+    sender's base pads and the siblings that these and that message give; then any delta, base pads and message and their siblings."""
+    rng = random.Random(128)
+    out = b""
+    for width in setup.WIDTHS:
+        roots, pads, delta = rng.randbytes(setup.roots_length(width)), rng.randbytes(8192), rng.randbytes(16)
+        _, message = setup.receiver_setup(width, roots, pads, bytes(8192))
+        mine = setup.sender_pads(width, delta, pads)
+        out += roots + pads + message + delta + mine + setup.sender_setup(width, delta, mine, message, bytes(4096))[1]
+        given = rng.randbytes(16), rng.randbytes(4096), rng.randbytes(8192)
+        out += b"".join(given) + setup.sender_setup(width, *given, bytes(4096))[1]
+    return out
+
+
 def files():
     m3 = b"".join(x.to_bytes(8, "little") for x in (2, 1, 5))
     v = vectors()
@@ -106,11 +122,13 @@ def files():
         "crates/foldprint/stdout": gf64.foldprint(m3).encode(),
         "crates/vectors/stdin": v.asked,
         "crates/vectors/stdout": "".join(line + "\n" for line in v.lines).encode(),
+        "tests/host/cases.bin": host_cases(),
     }
 
 
 def main():
     published.check()
+    setup.check()
     differ = 0
     for name, content in files().items():
         path = ROOT / name
