@@ -1,5 +1,6 @@
 /* Times the proved functions beside plain C, in one run: each row's two sides in turn, the least of many passes. Outputs are
    compared first. */
+#include "../include/softspoken.h"
 #include "bench.h"
 #include "plain.h"
 #include <stdio.h>
@@ -10,6 +11,7 @@
 enum { PASSES = 200, COLUMNS = 128, LENGTH = 128 };
 
 static uint8_t key[4][32], nonce[12], message[1024], table_bytes[COLUMNS * LENGTH];
+static uint8_t roots[4096], delta[16], pads[8192], totals[8192];
 static uint32_t lanes[32];
 static volatile uint64_t sink;
 
@@ -57,6 +59,39 @@ static void fold_four(unsigned i) {
     }
 }
 
+static void receiver_plain(unsigned width, unsigned i) {
+    uint8_t out[8192];
+    roots[0] = (uint8_t)i;
+    plain_receiver_setup(width, roots, pads, out);
+    sink ^= out[0];
+}
+static void receiver_proved(unsigned width, unsigned i) {
+    uint8_t out[8192];
+    roots[0] = (uint8_t)i;
+    sink ^= softspoken_receiver_setup(width, roots, 4096 / width, pads, 8192, out, 8192);
+    sink ^= out[0];
+}
+static void sender_plain(unsigned width, unsigned i) {
+    uint8_t out[4096];
+    delta[0] = (uint8_t)i;
+    plain_sender_setup(width, delta, pads, totals, out);
+    sink ^= out[0];
+}
+static void sender_proved(unsigned width, unsigned i) {
+    uint8_t out[4096];
+    delta[0] = (uint8_t)i;
+    sink ^= softspoken_sender_setup(width, delta, 16, pads, 4096, totals, 8192, out, 4096);
+    sink ^= out[0];
+}
+static void receiver8_plain(unsigned i) { receiver_plain(8, i); }
+static void receiver8_proved(unsigned i) { receiver_proved(8, i); }
+static void receiver1_plain(unsigned i) { receiver_plain(1, i); }
+static void receiver1_proved(unsigned i) { receiver_proved(1, i); }
+static void sender8_plain(unsigned i) { sender_plain(8, i); }
+static void sender8_proved(unsigned i) { sender_proved(8, i); }
+static void sender1_plain(unsigned i) { sender_plain(1, i); }
+static void sender1_proved(unsigned i) { sender_proved(1, i); }
+
 struct row { const char *name; void (*plain)(unsigned); double plain_units; void (*proved)(unsigned); double units, goal; unsigned turns; };
 
 static const struct row rows[] = {
@@ -67,6 +102,10 @@ static const struct row rows[] = {
     {"SHA-256 block of a long message", long_plain, 16, long_one, 16, 1.0, 40},
     {"folded word, one column", fold_plain, COLUMNS * LENGTH / 8, fold_one, COLUMNS * LENGTH / 8, 1.0, 1},
     {"folded word, four columns at once", fold_plain, COLUMNS * LENGTH / 8, fold_four, COLUMNS * LENGTH / 8, 0.35, 1},
+    {"receiver setup, k = 8", receiver8_plain, 1, receiver8_proved, 1, 0.6, 1},
+    {"receiver setup, k = 1", receiver1_plain, 1, receiver1_proved, 1, 0.6, 10},
+    {"sender setup, k = 8", sender8_plain, 1, sender8_proved, 1, 0.6, 1},
+    {"sender setup, k = 1", sender1_plain, 1, sender1_proved, 1, 0.6, 100},
 };
 
 static double least(double best, void (*work)(unsigned), unsigned turns, double units) {
@@ -110,8 +149,23 @@ static void compare(void) {
     }
 }
 
+static void compare_setups(void) {
+    static uint8_t a[8192], b[8192];
+    for (int n = 0; n < 40; n++) {
+        uint32_t width = 1u << n % 4;
+        fill(roots, sizeof roots); fill(delta, sizeof delta); fill(pads, sizeof pads); fill(totals, sizeof totals);
+        plain_receiver_setup(width, roots, pads, a);
+        expect(softspoken_receiver_setup(width, roots, 4096 / width, pads, 8192, b, 8192) == SOFTSPOKEN_DONE, "receiver setup");
+        expect(!memcmp(a, b, 8192), "receiver setup");
+        plain_sender_setup(width, delta, pads, totals, a);
+        expect(softspoken_sender_setup(width, delta, 16, pads, 4096, totals, 8192, b, 4096) == SOFTSPOKEN_DONE, "sender setup");
+        expect(!memcmp(a, b, 4096), "sender setup");
+    }
+}
+
 int main(void) {
     compare();
+    compare_setups();
     fill(table_bytes, sizeof table_bytes);
     printf("| Work | plain C, ns | proved, ns | ratio | goal |\n|---|---|---|---|---|\n");
     for (size_t r = 0; r < sizeof rows / sizeof *rows; r++) {

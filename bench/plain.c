@@ -103,3 +103,37 @@ uint64_t plain_fold(uint64_t key, const uint8_t *s, size_t len) {
     }
     return acc;
 }
+
+/* Both setups, one node at a time. Delta enters only as masks. */
+
+/* Adds the children made at each level from this one on, below a node, to that level's two totals. */
+static void add_children(const uint8_t node[32], unsigned level, unsigned width, uint8_t *totals) {
+    static const uint8_t nonce[12];
+    uint8_t children[64];
+    if (level == width) return;
+    plain_chacha20_block(node, 0, nonce, children);
+    for (int j = 0; j < 64; j++) totals[64 * level + j] ^= children[j];
+    add_children(children, level + 1, width, totals);
+    add_children(children + 32, level + 1, width, totals);
+}
+
+void plain_receiver_setup(unsigned width, const uint8_t *roots, const uint8_t base_pads[8192], uint8_t message[8192]) {
+    memcpy(message, base_pads, 8192);
+    for (unsigned i = 0; i < 128 / width; i++) add_children(roots + 32 * i, 0, width, message + 64 * width * i);
+}
+
+void plain_sender_setup(unsigned width, const uint8_t delta[16], const uint8_t base_pads[4096], const uint8_t message[8192],
+                        uint8_t siblings[4096]) {
+    for (unsigned i = 0; i < 128 / width; i++) {
+        uint8_t totals[64 * 8];
+        memcpy(totals, message + 64 * width * i, 64 * width);
+        for (unsigned level = 0; level < width; level++) {
+            unsigned at = i * width + level, bit = i * width + width - 1 - level;
+            const uint8_t *left = totals + 64 * level, *right = left + 32, *pad = base_pads + 32 * at;
+            uint8_t *node = siblings + 32 * at;
+            uint8_t mask = -(delta[bit / 8] >> bit % 8 & 1); /* all ones where the path goes right, and the node is the left one */
+            for (int j = 0; j < 32; j++) node[j] = ((left[j] & mask) | (right[j] & ~mask)) ^ pad[j];
+            add_children(node, level + 1, width, totals);
+        }
+    }
+}
