@@ -1,11 +1,12 @@
 /* No branch and no address may depend on a secret. Contracts can't say this and a mask in the source is not enough, so the compiled
    functions run under memcheck with every secret range marked undefined: a jump or an address that depends on one is reported. */
 #include "../bench/bench.h"
+#include "../include/softspoken.h"
 #include <stdio.h>
 #include <string.h>
 #include <valgrind/memcheck.h>
 
-static uint8_t secret[1024], nonce[12];
+static uint8_t secret[8192], nonce[12];
 static uint32_t table[512];
 static int failed;
 
@@ -21,6 +22,14 @@ static void expect_silent(const char *name, unsigned before, const void *out, si
     }
 }
 
+/* Run as part of the work: an answer that depends on a secret is reported here. */
+static void expect_done(const char *name, uint32_t answer) {
+    if (answer != SOFTSPOKEN_DONE) {
+        printf("%s: refused\n", name);
+        failed = 1;
+    }
+}
+
 #define RUN(name, work, out) \
     do { \
         memset(out, 0, sizeof out); \
@@ -28,6 +37,15 @@ static void expect_silent(const char *name, unsigned before, const void *out, si
         work; \
         expect_silent(name, before, out, sizeof out); \
     } while (0)
+
+/* Roots, delta, base pads and the setup message are all secret here; the width and the lengths are public. */
+static void setups(uint32_t width) {
+    uint8_t message[8192], siblings[4096];
+    RUN("receiver setup",
+        expect_done("receiver setup", softspoken_receiver_setup(width, secret, 4096 / width, secret, 8192, message, 8192)), message);
+    RUN("sender setup",
+        expect_done("sender setup", softspoken_sender_setup(width, secret, 16, secret, 4096, secret, 8192, siblings, 4096)), siblings);
+}
 
 int main(int argc, char **argv) {
     uint8_t bytes[128];
@@ -51,5 +69,6 @@ int main(int argc, char **argv) {
     RUN("sha256::four::digest", bench_sha256_four(secret, bytes), bytes);
     RUN("gf64::fold", fold[0] = bench_fold(0x0123456789abcdef, secret, 128), fold);
     RUN("gf64::fold_four", bench_fold_four(table, secret, 512, 128, folds), folds);
+    for (uint32_t width = 1; width <= 8; width *= 2) setups(width);
     return failed ? 9 : 0;
 }

@@ -4,8 +4,10 @@ set -eu
 cd "$(dirname "$0")/.."
 out=$(mktemp -d)
 trap 'rm -r "$out"' EXIT
-rt staticlib bench >"$out/log" 2>&1 || { cat "$out/log"; exit 1; }
-gcc -O1 -Wall -o "$out/secrets" tests/secrets.c target/staticlib/libbench.a
+for crate in bench host; do
+    rt staticlib $crate >"$out/log" 2>&1 || { cat "$out/log"; exit 1; }
+done
+gcc -O1 -Wall -o "$out/secrets" tests/secrets.c target/staticlib/libbench.a target/staticlib/libhost.a
 valgrind -q --log-file="$out/log" "$out/secrets"
 if valgrind -q --log-file="$out/log" "$out/secrets" leak; then
     echo "secrets: the planted leak was not seen"
