@@ -18,12 +18,21 @@ import sha256
 ROOT = pathlib.Path(__file__).resolve().parent.parent
 
 # What a record of the program vectors asks for.
-BLOCK, DIGEST, REPEATED, LINE, FOUR_BLOCKS, FOUR_DIGESTS, FOUR_FOLDS, NONCE = range(1, 9)
+(BLOCK, DIGEST, REPEATED, LINE, FOUR_BLOCKS, FOUR_DIGESTS, FOUR_FOLDS, NONCE,
+ RECEIVER_SETUP, SENDER_SETUP) = range(1, 11)
+
+# The program vectors reads no more than this.
+LIMIT = 1000000
 
 
 def lanes(parts):
     """Four lists of 4-byte words side by side: word w of lane l at 4w + l."""
     return b"".join(parts[l][4 * w:4 * w + 4] for w in range(len(parts[0]) // 4) for l in range(4))
+
+
+def lent(number, ranges):
+    """A number, the ranges' lengths, and the ranges."""
+    return b"".join(x.to_bytes(4, "little") for x in [number] + [len(r) for r in ranges]) + b"".join(ranges)
 
 
 class Vectors:
@@ -65,6 +74,63 @@ class Vectors:
         folds = [gf64.fold(key, gf64.words(c)).to_bytes(8, "little") for c in columns]
         self.add(FOUR_FOLDS, key.to_bytes(8, "little") + b"".join(columns), b"".join(folds).hex())
 
+    def setup(self, kind, step, width, ranges):
+        """The answer's number, and the digest of what the range out, the last, then holds."""
+        answer, after = step(width, *ranges)
+        self.add(kind, lent(width, ranges), "%02x" % answer + sha256.digest(after).hex())
+        return answer, after
+
+    def receiver_setup(self, width, *ranges):
+        return self.setup(RECEIVER_SETUP, setup.receiver_setup, width, ranges)
+
+    def sender_setup(self, width, *ranges):
+        return self.setup(SENDER_SETUP, setup.sender_setup, width, ranges)
+
+
+def fill(length):
+    """What a range holds where it doesn't matter, and where it must stay."""
+    return bytes(1 + i % 255 for i in range(length))
+
+
+def wrong_lengths(lengths):
+    """Each length in turn one too small, one too large, and 0."""
+    for at, right in enumerate(lengths):
+        for wrong in (right - 1, right + 1, 0):
+            yield lengths[:at] + [wrong] + lengths[at + 1:]
+
+
+def setups_done(v, rng):
+    for width in setup.WIDTHS:
+        roots, pads = rng.randbytes(setup.roots_length(width)), rng.randbytes(8192)
+        _, message = v.receiver_setup(width, roots, pads, fill(8192))
+        for delta in (rng.randbytes(16), bytes(16), b"\xff" * 16):
+            mine = setup.sender_pads(width, delta, pads)
+            done = v.sender_setup(width, delta, mine, message, fill(4096))
+            assert done == (setup.DONE, setup.beside_paths(width, delta, roots))
+        v.sender_setup(width, rng.randbytes(16), rng.randbytes(4096), rng.randbytes(8192), fill(4096))
+
+
+def setups_refused(v):
+    def receiver(width, lengths, number):
+        assert v.receiver_setup(width, *map(fill, lengths))[0] == number
+
+    def sender(width, lengths, number):
+        assert v.sender_setup(width, *map(fill, lengths))[0] == number
+
+    for lengths in wrong_lengths([512, 8192, 8192]):
+        receiver(8, lengths, setup.LENGTH)
+    receiver(1, [512, 8192, 8192], setup.LENGTH)
+    receiver(8, [4096, 8192, 8192], setup.LENGTH)
+    for lengths in wrong_lengths([16, 4096, 8192, 4096]):
+        sender(4, lengths, setup.LENGTH)
+    for width in (0, 3, 5, 16, (1 << 32) - 1):
+        receiver(width, [setup.roots_length(max(width, 1)), 8192, 8192], setup.WIDTH)
+        sender(width, [16, 4096, 8192, 4096], setup.WIDTH)
+    receiver(3, [setup.roots_length(3), 8192, 8191], setup.WIDTH)
+    receiver(3, [1, 2, 3], setup.WIDTH)
+    sender(3, [15, 4096, 8192, 4096], setup.WIDTH)
+    sender(3, [1, 2, 3, 4], setup.WIDTH)
+
 
 def vectors():
     rng = random.Random(8439)
@@ -96,6 +162,9 @@ def vectors():
     for count in range(1, 17):
         v.four_folds(rng.randrange(1 << 64), [rng.randbytes(8 * count) for _ in range(4)])
     v.four_folds((1 << 64) - 1, [b"\xff" * 128] * 4)
+    setups_done(v, rng)
+    setups_refused(v)
+    assert len(v.asked) <= LIMIT
     return v
 
 

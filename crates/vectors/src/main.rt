@@ -4,7 +4,7 @@
 use libc::STDIN_FILENO;
 use libc::STDOUT_FILENO;
 ghost use mathlib.Core.Path.{_≡_};
-ghost use Prim.Native.Nat.{_*_, _≤_};
+ghost use Prim.Native.Nat.{_+_, _*_, _≤_};
 ghost use lib.ListN.{length};
 
 // Prints some bytes in hexadecimal digits, and a newline.
@@ -106,6 +106,74 @@ fn nonce(p: &[u8]) {
     print(&chacha20::nonce(words::load32(p, 0), words::load32(p, 4)));
 }
 
+// Where a range ends that starts at one place and whose length stands at another; no later than the payload. The `ensures` gives the
+// bounds, which are all that its callers need.
+fn end_of(p: &[u8], at: usize, start: usize) -> usize
+    requires { ⌜ (at + 4 ≤ length (now p)) × (start ≤ length (now p)) ⌝ }
+    ensures { λ r. ⌜ (start ≤ r) × (r ≤ length (now (p .entry))) ⌝ }
+{
+    let n = words::load32(p, at) as usize;
+    if p.len() - start < n {
+        return p.len();
+    }
+    start + n
+}
+
+// An answer's number and the digest of a range.
+fn print_answer(result: answer::Answer, s: &[u8]) {
+    let mut line = [0u8; 33];
+    line[0] = (answer::number_of(result) % 256) as u8;
+    words::copy_part(&mut line, 1, &sha256::one::digest(s));
+    print(&line);
+}
+
+// A width, the lengths of roots, base pads and message, and these: the answer, and the message afterwards.
+fn receiver_setup(p: &[u8]) {
+    if p.len() < 16 {
+        return;
+    }
+    let roots = end_of(p, 4, 16);
+    let pads = end_of(p, 8, roots);
+    let message = end_of(p, 12, pads);
+    let n = message - pads;
+    if 8200 < n {
+        return;
+    }
+    let mut out = [0u8; 8200];
+    let last = &mut out[0..n];
+    words::copy_part(last, 0, &p[pads..message]);
+    let width = words::load32(p, 0);
+    let result = setup::receiver_setup(width, &p[16..roots], &p[roots..pads], last);
+    print_answer(result, last);
+}
+
+// A width, the lengths of delta, base pads, message and siblings, and these: the answer, and the siblings afterwards.
+fn sender_setup(p: &[u8]) {
+    if p.len() < 20 {
+        return;
+    }
+    let delta = end_of(p, 4, 20);
+    let pads = end_of(p, 8, delta);
+    let message = end_of(p, 12, pads);
+    let siblings = end_of(p, 16, message);
+    let n = siblings - message;
+    if 8200 < n {
+        return;
+    }
+    let mut out = [0u8; 8200];
+    let last = &mut out[0..n];
+    words::copy_part(last, 0, &p[message..siblings]);
+    let width = words::load32(p, 0);
+    let result = setup::sender_setup(
+        width,
+        &p[20..delta],
+        &p[delta..pads],
+        &p[pads..message],
+        last,
+    );
+    print_answer(result, last);
+}
+
 // An input of foldprint: its line.
 fn line(p: &[u8]) {
     let l = foldtext::line(p);
@@ -124,6 +192,8 @@ fn case(kind: u8, p: &[u8]) {
         6 => four_digests(p),
         7 => four_folds(p),
         8 => nonce(p),
+        9 => receiver_setup(p),
+        10 => sender_setup(p),
         _ => {}
     }
 }
