@@ -14,7 +14,8 @@ use Rattle.words.specs.Xor.{sumTo}
 use Rattle.words.proofs.Lists.{tabulate-length, tabulate-at, tabulate-same}
 use Rattle.words.proofs.Concat.{place-fits, part-at, concat-same, concat-parts, group-part}
 use Rattle.answer.specs.Answer.{widthAllowed}
-use Rattle.setup.specs.Setup.{columns, treesOf, deltaOf, treePart, sideOf, unmasked, nextNode, nodesFound, treeSiblings, siblingsOf}
+use Rattle.tree.specs.Layout.{columns, treesOf, deltaOf, treePart}
+use Rattle.setup.specs.Setup.{sideOf, unmasked, nextNode, nodesFound, treeSiblings, siblingsOf}
 use Rattle.setup.proofs.Widths.{width-fits}
 use Rattle.setup.proofs.Sides.{side-lt}
 use Rattle.setup.proofs.Levels.{levelOf, unmasked-length, found-same}

@@ -17,7 +17,8 @@ use Rattle.tree.specs.Tree.{childOf, sumBelow, totalOf}
 use Rattle.tree.specs.Path.{pathNode, siblingNode}
 use Rattle.tree.proofs.Sums.{child-length}
 use Rattle.tree.proofs.Path.{sibling}
-use Rattle.setup.specs.Setup.{treesOf, rootOf, deltaOf, treePart, treeMessage, messageOf}
+use Rattle.tree.specs.Layout.{treesOf, rootOf, deltaOf, treePart}
+use Rattle.setup.specs.Setup.{treeMessage, messageOf}
 use Rattle.setup.specs.Setup.{sideOf, unmasked, nextNode, nodesFound, treeSiblings, siblingsOf, senderPads, besidePaths}
 
 total-length : (root : List ℕ) (l s : ℕ) → length (totalOf root l s) ≡ 32

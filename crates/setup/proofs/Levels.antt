@@ -22,7 +22,8 @@ use Rattle.tree.specs.Tree.{childrenOf, childOf, sumBelow}
 use Rattle.tree.specs.Lanes.{totalWord, totalByte}
 use Rattle.tree.proofs.Sums.{child-byte, sum-same}
 use Rattle.tree.proofs.Lanes.{total-lane}
-use Rattle.setup.specs.Setup.{treePart, unmasked, nextNode, nodesFound}
+use Rattle.tree.specs.Layout.{treePart}
+use Rattle.setup.specs.Setup.{unmasked, nextNode, nodesFound}
 
 -- ---- unmasking
 

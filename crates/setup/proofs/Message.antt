@@ -17,7 +17,8 @@ use Rattle.tree.specs.Tree.{childrenOf, childOf, sumBelow, totalOf}
 use Rattle.tree.specs.Lanes.{totalWord, totalByte}
 use Rattle.tree.proofs.Sums.{child-byte, sum-same}
 use Rattle.tree.proofs.Lanes.{total-lane}
-use Rattle.setup.specs.Setup.{rootOf, treePart, treeMessage}
+use Rattle.tree.specs.Layout.{rootOf, treePart}
+use Rattle.setup.specs.Setup.{treeMessage}
 use Rattle.setup.proofs.Honest.{message-length, message-at}
 
 -- ---- a tree's message

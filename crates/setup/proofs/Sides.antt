@@ -12,7 +12,8 @@ use Rattle.words.proofs.Xor.{digit, bit-lt, xor-cancel, and-bit}
 use Rattle.words.proofs.Sums.{ofBits-bit}
 use Rattle.answer.specs.Answer.{widthAllowed}
 use Rattle.answer.proofs.Laws.{width-cases}
-use Rattle.setup.specs.Setup.{deltaOf, sideOf}
+use Rattle.tree.specs.Layout.{deltaOf}
+use Rattle.setup.specs.Setup.{sideOf}
 
 -- of two elements 32 places apart, words of w bits, a mask that is all ones or none takes the one on its side
 pub chosen : (w : ℕ) (t : List ℕ) (j side mask : ℕ) → getD t j 0 < 2 ^ w → getD t (32 + j) 0 < 2 ^ w → side < 2

@@ -6,7 +6,8 @@ ghost use Prim.Native.Nat.{_*_, _≤_};
 ghost use lib.ListN.{length};
 ghost use Rattle.words.specs.Bytes.{concat};
 ghost use Rattle.answer.specs.Answer.{widthAllowed};
-ghost use Rattle.setup.specs.Setup.{treesOf, rootOf, treePart, treeMessage, messageOf, receiverSetupAnswer};
+ghost use Rattle.tree.specs.Layout.{treesOf, rootOf, treePart};
+ghost use Rattle.setup.specs.Setup.{treeMessage, messageOf, receiverSetupAnswer};
 
 // The answer of the receiver's setup, from its width and the lengths of its ranges.
 pub fn setup_answer(width: u32, roots: usize, pads: usize, message: usize) -> Answer

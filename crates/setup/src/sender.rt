@@ -9,7 +9,8 @@ ghost use Rattle.words.specs.Lanes.{laneBytes};
 ghost use Rattle.words.specs.Xor.{_⊕_, xorEach, xorPart};
 ghost use Rattle.answer.specs.Answer.{widthAllowed};
 ghost use Rattle.tree.specs.Lanes.{totalWord};
-ghost use Rattle.setup.specs.Setup.{columns, treesOf, deltaOf, sideOf, treePart, unmasked, nodesFound, siblingsOf, senderSetupAnswer};
+ghost use Rattle.tree.specs.Layout.{columns, treesOf, deltaOf, treePart};
+ghost use Rattle.setup.specs.Setup.{sideOf, unmasked, nodesFound, siblingsOf, senderSetupAnswer};
 
 // The answer of the sender's setup, from its width and the lengths of its ranges.
 pub fn setup_answer(

@@ -1,4 +1,5 @@
 pub mod Tree
 pub mod Path
 pub mod Columns
+pub mod Layout
 pub mod Lanes

@@ -7,7 +7,8 @@ use denote.Ref.{now}
 use Rattle.answer.specs.declared.Answer.the-variants.{Done, Width, Length}
 use Rattle.answer.specs.Answer.{widthAllowed}
 use Rattle.answer.proofs.Laws.{both-of, done-of, width-refuses, length-refuses, is-done, not-done}
-use Rattle.setup.specs.Setup.{treesOf, messageOf, receiverSetupAnswer}
+use Rattle.tree.specs.Layout.{treesOf}
+use Rattle.setup.specs.Setup.{messageOf, receiverSetupAnswer}
 use borrow.Author.Needs.{needs}
 use Rattle.setup.proofs.receiver_setup.Statement.{statement}
 use Rattle.setup.proofs.receiver_setup.Tie as tie

@@ -19,17 +19,14 @@ loop-holds c = (omega arith, updated-none _ _)
 mul-dst : tie.Need-mul-dst Inv-loop μ-loop
 mul-dst c = search needs
 
-slice-read-dst : tie.Need-slice-read-dst Inv-loop μ-loop
-slice-read-dst c = search needs
+shared-slice-read-dst : tie.Need-shared-slice-read-dst Inv-loop μ-loop
+shared-slice-read-dst c = search needs
 
 mul-dst-2 : tie.Need-mul-dst-2 Inv-loop μ-loop
 mul-dst-2 c = search needs
 
-shared-slice-read-dst : tie.Need-shared-slice-read-dst Inv-loop μ-loop
-shared-slice-read-dst c = search needs
-
-mul-dst-3 : tie.Need-mul-dst-3 Inv-loop μ-loop
-mul-dst-3 c = search needs
+slice-read-dst : tie.Need-slice-read-dst Inv-loop μ-loop
+slice-read-dst c = search needs
 
 slice-write-dst : tie.Need-slice-write-dst Inv-loop μ-loop
 slice-write-dst c = search needs
@@ -57,10 +54,9 @@ xor-words-spec =
     μ-loop
     loop-holds
     mul-dst
-    slice-read-dst
-    mul-dst-2
     shared-slice-read-dst
-    mul-dst-3
+    mul-dst-2
+    slice-read-dst
     slice-write-dst
     add-i
     loop-less

@@ -9,7 +9,8 @@ use lib.Seq.{take-all}
 use borrow.Rule.Slice.PartMut.{mid-len}
 use Rattle.words.specs.Bytes.{concat}
 use Rattle.words.proofs.Concat.{concat-grow, concat-length}
-use Rattle.setup.specs.Setup.{treesOf, rootOf, treePart, treeMessage, messageOf}
+use Rattle.tree.specs.Layout.{treesOf, rootOf, treePart}
+use Rattle.setup.specs.Setup.{treeMessage, messageOf}
 use Rattle.setup.proofs.Honest.{message-length}
 use Rattle.setup.proofs.Widths.{width-fits, four-fit}
 use Rattle.setup.proofs.Message.{four-from}

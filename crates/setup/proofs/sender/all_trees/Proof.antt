@@ -9,7 +9,8 @@ use lib.Seq.{take-all, drop-drop}
 use borrow.Rule.Slice.PartMut.{mid-len, drop-put}
 use Rattle.words.specs.Bytes.{concat}
 use Rattle.words.proofs.Concat.{concat-grow, concat-length, part-lt}
-use Rattle.setup.specs.Setup.{treesOf, treePart, nodesFound}
+use Rattle.tree.specs.Layout.{treesOf, treePart}
+use Rattle.setup.specs.Setup.{nodesFound}
 use Rattle.setup.proofs.Widths.{width-fits, four-fit}
 use Rattle.setup.proofs.Levels.{found-length, four-found}
 use Rattle.setup.proofs.sender.all_trees.Statement.{statement}

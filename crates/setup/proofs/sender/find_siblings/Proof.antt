@@ -7,7 +7,8 @@ use lib.ListN.{length, getD}
 use borrow.Author.Needs.{needs}
 use Rattle.words.specs.Bytes.{concat}
 use Rattle.words.proofs.Lists.{tabulate-length, tabulate-lt}
-use Rattle.setup.specs.Setup.{columns, treesOf, deltaOf, sideOf, treePart, unmasked, nodesFound}
+use Rattle.tree.specs.Layout.{columns, treesOf, deltaOf, treePart}
+use Rattle.setup.specs.Setup.{sideOf, unmasked, nodesFound}
 use Rattle.setup.proofs.Widths.{width-fits}
 use Rattle.setup.proofs.Sides.{side-lt}
 use Rattle.setup.proofs.Find.{siblings-found, siblings-first}

@@ -7,7 +7,8 @@ use Rattle.words.specs.Bytes.{tabulate}
 use Rattle.words.specs.Bits.{bitAt}
 use Rattle.words.proofs.Lists.{tabulate-length, tabulate-at}
 use Rattle.words.proofs.Progress.{Begun, begun-none, begun-set, begun-all}
-use Rattle.setup.specs.Setup.{deltaOf, sideOf}
+use Rattle.tree.specs.Layout.{deltaOf}
+use Rattle.setup.specs.Setup.{sideOf}
 use Rattle.setup.proofs.Sides.{side-bit, level-fits, level-first, level-wraps, level-next}
 use Rattle.setup.proofs.sender.sides.Statement.{statement}
 use Rattle.setup.proofs.sender.sides.Tie as tie
