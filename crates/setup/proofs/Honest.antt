@@ -156,16 +156,31 @@ message-part k roots pads =
     concat-part (λ i. treeMessage k (rootOf roots i) (treePart k 64 i pads)) (64 * k) (treesOf k)
     (λ i h. message-length k (rootOf roots i) (treePart k 64 i pads))
 
+pub messageOf-length : (k : ℕ) (roots pads : List ℕ) → length (messageOf k roots pads) ≡ treesOf k * (64 * k)
+unfolding messageOf
+messageOf-length k roots pads =
+    concat-length (λ i. treeMessage k (rootOf roots i) (treePart k 64 i pads)) (64 * k) (treesOf k)
+    (λ i h. message-length k (rootOf roots i) (treePart k 64 i pads))
+
 -- and of the sender's pads
-pads-part : (k : ℕ) (delta pads : List ℕ) → treesOf k * (64 * k) ≤ length pads → (i : ℕ) → i < treesOf k
-    → treePart k 32 i (senderPads k delta pads) ≡ concat k (pad k (deltaOf k delta i) (treePart k 64 i pads))
-unfolding senderPads pad
-pads-part k delta pads long =
-    concat-part (λ i. concat k (pad k (deltaOf k delta i) (treePart k 64 i pads))) (32 * k) (treesOf k)
-    (λ i h.
-    concat-length (pad k (deltaOf k delta i) (treePart k 64 i pads)) 32 k
-    (pad-length k (deltaOf k delta i) (treePart k 64 i pads) (fits k pads long i h))
-    ∙ mul-comm k 32)
+module _ (k : ℕ) (delta pads : List ℕ) (long : treesOf k * (64 * k) ≤ length pads) where
+  treePads : ℕ → List ℕ
+  treePads i = concat k (pad k (deltaOf k delta i) (treePart k 64 i pads))
+
+  treePads-length : (i : ℕ) → i < treesOf k → length (treePads i) ≡ 32 * k
+  unfolding treePads
+  treePads-length i h =
+      concat-length (pad k (deltaOf k delta i) (treePart k 64 i pads)) 32 k
+      (pad-length k (deltaOf k delta i) (treePart k 64 i pads) (fits k pads long i h))
+      ∙ mul-comm k 32
+
+  pads-part : (i : ℕ) → i < treesOf k → treePart k 32 i (senderPads k delta pads) ≡ concat k (pad k (deltaOf k delta i) (treePart k 64 i pads))
+  unfolding senderPads pad treePads
+  pads-part = concat-part treePads (32 * k) (treesOf k) treePads-length
+
+  pub senderPads-length : length (senderPads k delta pads) ≡ treesOf k * (32 * k)
+  unfolding senderPads pad treePads
+  senderPads-length = concat-length treePads (32 * k) (treesOf k) treePads-length
 
 -- the sender, given the receiver's message and, for each base transfer, the receiver's pad numbered 1 minus the path bit, gets the
 -- nodes beside its paths in the receiver's trees

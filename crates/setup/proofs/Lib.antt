@@ -1,4 +1,5 @@
 -- The laws that other crates cite.
+pub mod Answers
 pub mod Honest
 pub mod Widths
 pub mod Message

@@ -1,15 +1,11 @@
 -- `setup::receiver_setup` meets its contract: the message is written where the answer is Done, and else left. Assumes nothing.
 use mathlib.Core.Path.{_≡_, sym, _∙_}
-use mathlib.Core.Bool.{true}
-use Prim.Native.Nat.{ℕ, _*_}
-use borrow.Author.Tests.{eqb-true}
 use denote.Ref.{now}
-use Rattle.answer.specs.declared.Answer.the-variants.{Done, Width, Length}
-use Rattle.answer.specs.Answer.{widthAllowed}
-use Rattle.answer.proofs.Laws.{both-of, done-of, width-refuses, length-refuses, is-done, not-done}
-use Rattle.tree.specs.Layout.{treesOf}
-use Rattle.setup.specs.Setup.{messageOf, receiverSetupAnswer}
+use Rattle.answer.specs.declared.Answer.the-variants.{Done}
+use Rattle.answer.proofs.Laws.{is-done, not-done}
+use Rattle.setup.specs.Setup.{messageOf}
 use borrow.Author.Needs.{needs}
+use Rattle.setup.proofs.Answers.{receiver-fits}
 use Rattle.setup.proofs.receiver_setup.Statement.{statement}
 use Rattle.setup.proofs.receiver_setup.Tie as tie
 
@@ -22,18 +18,8 @@ enum-told c = search needs
 done : (c : tie.At-match-keys1) → c .before .setup-answer .result ≡ Done
 done c = is-done _ (c .match .keys1)
 
--- what an answer of Done tells
-allowed : (k roots pads message : ℕ) → receiverSetupAnswer k roots pads message ≡ Done
-    → (widthAllowed k ≡ true) × (roots ≡ 32 * treesOf k) × (pads ≡ 8192) × (message ≡ 8192)
-unfolding receiverSetupAnswer
-allowed k roots pads message e =
-    let width = done-of _ Width _ width-refuses e in
-    let lengths = both-of _ _ (done-of _ Length _ length-refuses (width .1) .0) in
-    let rest = both-of _ _ (lengths .1) in
-    (width .0, eqb-true _ _ (lengths .0), eqb-true _ _ (rest .0), eqb-true _ _ (rest .1))
-
 write-message-requires : tie.Need-write-message-requires
-write-message-requires c κs = allowed _ _ _ _ (sym (c .before .before .before .setup-answer .ensures) ∙ done (c .before .before))
+write-message-requires c κs = receiver-fits _ _ _ _ (sym (c .before .before .before .setup-answer .ensures) ∙ done (c .before .before))
 
 same-length : tie.Need-same-length
 same-length c = search needs

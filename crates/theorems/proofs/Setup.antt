@@ -1,0 +1,44 @@
+-- An honest setup, of the two steps together: what they promise, and nothing else, is assumed of them. Assumes nothing.
+use mathlib.Core.Path.{_≡_, sym, ap, _∙_}
+use mathlib.Core.Bool.{true}
+use mathlib.Core.List.{List}
+use Prim.Native.Nat.{ℕ, _*_, _≤_}
+use native.Mathlib.Omega.{arith}
+use lib.ListN.{length}
+use Rattle.answer.specs.declared.Answer.{Answer}
+use Rattle.answer.specs.declared.Answer.the-variants.{Done}
+use Rattle.answer.specs.Answer.{widthAllowed, whenDone}
+use Rattle.tree.specs.Layout.{treesOf}
+use Rattle.setup.specs.Setup.{messageOf, siblingsOf, senderPads, besidePaths, ReceiverSetup, SenderSetup}
+use Rattle.setup.proofs.Answers.{receiver-fits, receiver-done, sender-done}
+use Rattle.setup.proofs.Honest.{messageOf-length, senderPads-length, honest-setup, pads-enough}
+use Rattle.setup.proofs.Widths.{width-fits}
+
+module _ (width : ℕ) (roots pads message message′ delta siblings siblings′ : List ℕ) (answer answer′ : Answer)
+    (received : ReceiverSetup width roots pads message answer message′)
+    -- the sender is given the receiver's message, and of each two base pads the one numbered 1 minus the path bit
+    (sent : SenderSetup width delta (senderPads width delta pads) message′ siblings answer′ siblings′) where
+  message-is : answer ≡ Done → message′ ≡ messageOf width roots pads
+  message-is done = received .written ∙ ap (λ (a : Answer). whenDone a (messageOf width roots pads) message) done
+
+  -- where both are done, the sender has exactly the nodes beside the paths of delta in the receiver's trees
+  pub siblings-are : answer ≡ Done → answer′ ≡ Done → siblings′ ≡ besidePaths width delta roots
+  siblings-are done done′ =
+      let fits = receiver-fits _ _ _ _ (sym (received .answered) ∙ done) in
+      sent .written
+      ∙ ap (λ (a : Answer). whenDone a (siblingsOf width delta (senderPads width delta pads) message′) siblings) done′
+      ∙ ap (siblingsOf width delta (senderPads width delta pads)) (message-is done)
+      ∙ honest-setup width delta roots pads (omega (arith, pads-enough width, fits .2))
+
+  -- and both are done at every width that is allowed, on ranges of the lengths named
+  pub both-done : widthAllowed width ≡ true → length roots ≡ 32 * treesOf width → length pads ≡ 8192 → length message ≡ 8192
+      → length delta ≡ 16 → length siblings ≡ 4096 → (answer ≡ Done) × (answer′ ≡ Done)
+  both-done allowed r p m d s =
+      let fits = width-fits width allowed in
+      let done = received .answered ∙ receiver-done _ _ _ _ (allowed, r, p, m) in
+      let long : treesOf width * (64 * width) ≤ length pads = omega (arith, fits .pairs) in (
+        done,
+        sent .answered
+            ∙ sender-done _ _ _ _ _
+            (allowed, d, senderPads-length width delta pads long ∙ fits .single, ap length (message-is done) ∙ messageOf-length width roots pads ∙ fits .pairs, s),
+      )
