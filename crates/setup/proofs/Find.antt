@@ -2,7 +2,7 @@
 use mathlib.Core.Path.{_≡_, sym, ap, ap₂, _∙_}
 use mathlib.Core.Bool.{true}
 use mathlib.Core.List.{List}
-use Prim.Native.Nat.{ℕ, _+_, _-_, _*_, _/_, _%_, _<_}
+use Prim.Native.Nat.{ℕ, _+_, _-_, _*_, _<_}
 use native.Mathlib.Nat.{mul-comm, mul-assoc}
 use native.Mathlib.Omega.{arith}
 use lib.Arith.{digits-div, digits-mod}
@@ -16,8 +16,9 @@ use Rattle.words.proofs.Concat.{place-fits, part-at, concat-same, concat-parts,
 use Rattle.answer.specs.Answer.{widthAllowed}
 use Rattle.tree.specs.Layout.{columns, treesOf, deltaOf, treePart}
 use Rattle.setup.specs.Setup.{sideOf, unmasked, nextNode, nodesFound, treeSiblings, siblingsOf}
+use Rattle.setup.specs.Sides.{sidesOf, foundIn}
 use Rattle.setup.proofs.Widths.{width-fits}
-use Rattle.setup.proofs.Sides.{side-lt}
+use Rattle.setup.proofs.Sides.{side-lt, sides-at}
 use Rattle.setup.proofs.Levels.{levelOf, unmasked-length, found-same}
 
 -- in a tree of one level the node is the unmasked total
@@ -32,17 +33,13 @@ found-first side totals k one long =
     ∙ ap (λ (i : ℕ). getD totals i 0) (omega arith))
 
 module _ (k : ℕ) (allowed : widthAllowed k ≡ true) (delta message pads : List ℕ) where
-  -- the side of each base transfer
-  abbrev pub sidesOf : List ℕ
-  sidesOf = tabulate columns (λ c. sideOf k (deltaOf k delta (c / k)) (c % k))
-
-  -- and all of them unmasked
+  -- the unmasked totals of all base transfers
   abbrev pub allUnmasked : List ℕ
-  allUnmasked = unmasked columns (λ c. getD sidesOf c 0) message pads
+  allUnmasked = unmasked columns (λ c. getD (sidesOf k delta) c 0) message pads
 
-  side-in : (i l : ℕ) → i < treesOf k → l < k → getD sidesOf (i * k + l) 0 ≡ sideOf k (deltaOf k delta i) l
+  side-in : (i l : ℕ) → i < treesOf k → l < k → getD (sidesOf k delta) (i * k + l) 0 ≡ sideOf k (deltaOf k delta i) l
   side-in i l hi hl =
-      tabulate-at columns (λ c. sideOf k (deltaOf k delta (c / k)) (c % k)) (i * k + l)
+      sides-at k delta (i * k + l)
       (omega (arith, place-fits i (treesOf k) k hi, width-fits k allowed .columns))
       ∙ ap₂ (λ (t l : ℕ). sideOf k (deltaOf k delta t) l) (digits-div i hl) (digits-mod i hl)
 
@@ -56,7 +53,7 @@ module _ (k : ℕ) (allowed : widthAllowed k ≡ true) (delta message pads : Lis
       ∙ concat-same k (λ l. levels (i * k + l)) (levelOf side (treePart k 64 i message) (treePart k 32 i pads)) (λ l hl. level l hl)
     where
       levels : ℕ → List ℕ
-      levels = levelOf (λ c. getD sidesOf c 0) message pads
+      levels = levelOf (λ c. getD (sidesOf k delta) c 0) message pads
 
       side : ℕ → ℕ
       side = sideOf k (deltaOf k delta i)
@@ -77,14 +74,13 @@ module _ (k : ℕ) (allowed : widthAllowed k ≡ true) (delta message pads : Lis
           (ap (λ (x : ℕ). getD pads x 0) place₂ ∙ sym (part-at (i * (32 * k)) (32 * k) pads (32 * l + j) (omega arith))))
 
   -- each tree's nodes, from its part
-  pub siblings-found : concat (treesOf k) (λ i. nodesFound (λ l. getD sidesOf (i * k + l) 0) (treePart k 32 i allUnmasked) k)
-      ≡ siblingsOf k delta pads message
+  pub siblings-found : foundIn k (treesOf k) (sidesOf k delta) allUnmasked ≡ siblingsOf k delta pads message
   unfolding siblingsOf
   siblings-found =
-      concat-same (treesOf k) (λ i. nodesFound (λ l. getD sidesOf (i * k + l) 0) (treePart k 32 i allUnmasked) k)
+      concat-same (treesOf k) (λ i. nodesFound (λ l. getD (sidesOf k delta) (i * k + l) 0) (treePart k 32 i allUnmasked) k)
       (λ i. treeSiblings k (sideOf k (deltaOf k delta i)) (treePart k 64 i message) (treePart k 32 i pads))
       (λ i hi.
-      found-same (λ l. getD sidesOf (i * k + l) 0) (sideOf k (deltaOf k delta i)) (treePart k 32 i allUnmasked) k (λ l hl. side-in i l hi hl)
+      found-same (λ l. getD (sidesOf k delta) (i * k + l) 0) (sideOf k (deltaOf k delta i)) (treePart k 32 i allUnmasked) k (λ l hl. side-in i l hi hl)
       ∙ ap (λ (z : List ℕ). nodesFound (sideOf k (deltaOf k delta i)) z k) (tree-unmasked i hi))
 
   -- and where a tree has one level, the unmasked totals themselves
@@ -98,7 +94,7 @@ module _ (k : ℕ) (allowed : widthAllowed k ≡ true) (delta message pads : Lis
       (λ i hi. tree-unmasked i hi ∙ sym (found-first (sideOf k (deltaOf k delta i)) _ k one (size i)))
     where
       long : length allUnmasked ≡ 4096
-      long = unmasked-length columns (λ c. getD sidesOf c 0) message pads
+      long = unmasked-length columns (λ c. getD (sidesOf k delta) c 0) message pads
 
       turn : k * 32 ≡ 32
       turn = omega arith

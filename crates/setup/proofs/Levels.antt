@@ -9,11 +9,12 @@ use native.Mathlib.Numerals.{add-one}
 use lib.Bits.{bitXor, xor-zero-r}
 use lib.ListN.{length, getD, take, drop}
 use lib.Seq.{ext-getD}
+use borrow.Rule.Slice.PartMut.{putMid}
 use Rattle.words.specs.Bytes.{bytes, tabulate, part, concat}
 use Rattle.words.specs.Lanes.{laneBytes}
-use Rattle.words.specs.Xor.{xorPart, sumTo}
+use Rattle.words.specs.Xor.{xorEach, xorPart, sumTo}
 use Rattle.words.proofs.Below.{below}
-use Rattle.words.proofs.Lists.{tabulate-length, tabulate-at, tabulate-same}
+use Rattle.words.proofs.Lists.{tabulate-length, tabulate-at, tabulate-same, xorPart-length, part-added}
 use Rattle.words.proofs.Concat.{place-fits, part-at, place-part, concat-same, concat-length, concat-part, concat-at}
 use Rattle.words.proofs.Sums.{sumTo-same}
 use Rattle.words.proofs.LaneBytes.{laneBytes-length, laneBytes-at, lane-added-in, lane-added-before, lane-added-after}
@@ -24,6 +25,7 @@ use Rattle.tree.proofs.Sums.{child-byte, sum-same}
 use Rattle.tree.proofs.Lanes.{total-lane}
 use Rattle.tree.specs.Layout.{treePart}
 use Rattle.setup.specs.Setup.{unmasked, nextNode, nodesFound}
+use Rattle.setup.specs.Sides.{foundIn}
 
 -- ---- unmasking
 
@@ -157,20 +159,31 @@ module _ (k : ℕ) (side : ℕ → ℕ) (low : (l : ℕ) → side l < 2) (totals
     found-next : (b : ℕ) → b < 32 → getD (laneBytes i (8 * k) s′) (32 * (l + 1) + b) 0 ≡ getD (nodeAt side totals (l + 1)) b 0
     found-next b hb =
         let back : 32 * (l + 1) + b - 32 * (l + 1) ≡ b = omega arith in
-        let lane : (4 * (b / 4) + i) % 4 ≡ i = omega arith in
-        let place : 64 * (l + 1) + (32 * side (l + 1) + (4 * (b / 4) + i)) ≡ 4 * ((64 * (l + 1) + 32 * side (l + 1) + b) / 4) + i = omega arith in
-        let byte : (32 * (l + 1) + b) % 4 ≡ (64 * (l + 1) + 32 * side (l + 1) + b) % 4 = omega arith in
+        let byte : (32 * (l + 1) + b) % 4 ≡ y % 4 = omega arith in
         ap (λ (z : List ℕ). getD (laneBytes i (8 * k) z) (32 * (l + 1) + b) 0) es
-        ∙ lane-added-in i (8 * k) (32 * (l + 1)) 32 s _ hi (omega arith) refl (omega (arith, ls)) (32 * (l + 1) + b) (omega arith) (omega arith)
+        ∙ lane-added-in i (8 * k) (32 * (l + 1)) 32 s word hi (omega arith) refl (omega (arith, ls)) (32 * (l + 1) + b) (omega arith) (omega arith)
         (omega arith)
         ∙ ap₂ bitXor (r .rest (32 * (l + 1) + b) (omega arith) (omega arith))
-        (ap₂ (λ (p q : ℕ). getD (bytes 4 (getD t′ (64 * (l + 1) + (32 * getD sides ((4 * (p / 4) + i) % 4 * k + (l + 1)) 0 + (4 * (p / 4) + i))) 0)) q 0) back byte
-        ∙ ap (λ (q : ℕ). getD (bytes 4 (getD t′ (64 * (l + 1) + (32 * getD sides (q * k + (l + 1)) 0 + (4 * (b / 4) + i))) 0)) ((64 * (l + 1) + 32 * side (l + 1) + b) % 4) 0) lane
-        ∙ ap (λ (q : ℕ). getD (bytes 4 (getD t′ (64 * (l + 1) + (32 * q + (4 * (b / 4) + i))) 0)) ((64 * (l + 1) + 32 * side (l + 1) + b) % 4) 0) (sym (same (l + 1)))
-        ∙ ap (λ (p : ℕ). getD (bytes 4 (getD t′ p 0)) ((64 * (l + 1) + 32 * side (l + 1) + b) % 4) 0) place
-        ∙ sym (laneBytes-at i (16 * k) t′ (64 * (l + 1) + 32 * side (l + 1) + b) (omega (arith, low (l + 1))))
-        ∙ made-next (64 * (l + 1) + 32 * side (l + 1) + b) (omega arith) (omega (arith, low (l + 1))))
+        (ap₂ (λ (p q : ℕ). getD (bytes 4 (word (4 * (p / 4) + i))) q 0) back byte
+        ∙ ap (λ (w : ℕ). getD (bytes 4 w) (y % 4) 0) here
+        ∙ sym (laneBytes-at i (16 * k) t′ y (omega (arith, low (l + 1))))
+        ∙ made-next y (omega arith) (omega (arith, low (l + 1))))
         ∙ sym (node-byte side totals (l + 1) b hb (low (l + 1)))
+      where
+        -- the byte's place in the lane of t′, and the words that are taken off
+        y : ℕ
+        y = 64 * (l + 1) + 32 * side (l + 1) + b
+
+        word : ℕ → ℕ
+        word p = getD t′ (64 * (l + 1) + (32 * getD sides (p % 4 * k + (l + 1)) 0 + p)) 0
+
+        here : word (4 * (b / 4) + i) ≡ getD t′ (4 * (y / 4) + i) 0
+        here =
+            let lane : (4 * (b / 4) + i) % 4 ≡ i = omega arith in
+            let place : 64 * (l + 1) + (32 * side (l + 1) + (4 * (b / 4) + i)) ≡ 4 * (y / 4) + i = omega arith in
+            ap (λ (q : ℕ). getD t′ (64 * (l + 1) + (32 * getD sides (q * k + (l + 1)) 0 + (4 * (b / 4) + i))) 0) lane
+            ∙ ap (λ (q : ℕ). getD t′ (64 * (l + 1) + (32 * q + (4 * (b / 4) + i))) 0) (sym (same (l + 1)))
+            ∙ ap (λ (p : ℕ). getD t′ p 0) place
 
     pub reached-next : Reached k side totals i (l + 1) s′ t′
     reached-next =
@@ -219,7 +232,7 @@ pub through-lanes : (k : ℕ) (sides siblings s s₁ s₂ out : List ℕ) → le
     → ((i : ℕ) → i < 4 → laneBytes i (length s / 4) s₁ ≡ part (i * length s) (length s) siblings)
     → ((i : ℕ) → i < 4 → laneBytes i (8 * k) s₂ ≡ nodesFound (λ l. getD sides (i * k + l) 0) (laneBytes i (8 * k) s₁) k)
     → out ≡ concat 4 (λ i. laneBytes i (length s₂ / 4) s₂)
-    → out ≡ concat 4 (λ i. nodesFound (λ l. getD sides (i * k + l) 0) (treePart k 32 i siblings) k)
+    → out ≡ foundIn k 4 sides siblings
 through-lanes k sides siblings s s₁ s₂ out e e₂ loaded found stored =
     stored
     ∙ ap (λ (n : ℕ). concat 4 (λ i. laneBytes i n s₂)) (ap (λ (n : ℕ). n / 4) e₂ ∙ quarter)
@@ -249,15 +262,38 @@ pub four-found : (k i : ℕ) (sides totals xs : List ℕ) → drop (i * (32 * k)
     (treePart k 32 j (part (i * (32 * k)) ((i + 4) * (32 * k) - i * (32 * k)) xs)) k)
     ≡ concat 4 (λ j. nodesFound (λ l. getD sides ((i + j) * k + l) 0) (treePart k 32 (i + j) totals) k)
 four-found k i sides totals xs same =
-    concat-same 4
-    (λ j. nodesFound (λ l. getD (part (i * k) ((i + 4) * k - i * k) sides) (j * k + l) 0)
-    (treePart k 32 j (part (i * (32 * k)) ((i + 4) * (32 * k) - i * (32 * k)) xs)) k)
-    (λ j. nodesFound (λ l. getD sides ((i + j) * k + l) 0) (treePart k 32 (i + j) totals) k)
+    concat-same 4 (λ j. nodesFound (near j) (treePart k 32 j (take m (drop (i * (32 * k)) xs))) k)
+    (λ j. nodesFound (far j) (treePart k 32 (i + j) totals) k)
     (λ j h.
-    ap (λ (z : List ℕ). nodesFound (λ l. getD (part (i * k) ((i + 4) * k - i * k) sides) (j * k + l) 0) (treePart k 32 j (take ((i + 4) * (32 * k) - i * (32 * k)) z)) k) same
-    ∙ ap (λ (z : List ℕ). nodesFound (λ l. getD (part (i * k) ((i + 4) * k - i * k) sides) (j * k + l) 0) z k) (place-part i 4 j (32 * k) totals h)
-    ∙ found-same (λ l. getD (part (i * k) ((i + 4) * k - i * k) sides) (j * k + l) 0) (λ l. getD sides ((i + j) * k + l) 0) (treePart k 32 (i + j) totals) k
+    ap (λ (z : List ℕ). nodesFound (near j) (treePart k 32 j (take m z)) k) same
+    ∙ ap (λ (z : List ℕ). nodesFound (near j) z k) (place-part i 4 j (32 * k) totals h)
+    ∙ found-same (near j) (far j) (treePart k 32 (i + j) totals) k
     (λ l hl.
     let place : i * k + (j * k + l) ≡ (i + j) * k + l = omega (arith, add-mul i j k) in
     part-at (i * k) ((i + 4) * k - i * k) sides (j * k + l) (omega (arith, place-fits j 4 k h, add-mul i 4 k))
     ∙ ap (λ (x : ℕ). getD sides x 0) place))
+  where
+    m : ℕ
+    m = (i + 4) * (32 * k) - i * (32 * k)
+
+    -- the side of a level of tree i + j, in the part and in all
+    near : ℕ → ℕ → ℕ
+    near j l = getD (part (i * k) ((i + 4) * k - i * k) sides) (j * k + l) 0
+
+    far : ℕ → ℕ → ℕ
+    far j l = getD sides ((i + j) * k + l) 0
+
+-- ---- one level of the walk: the totals of the nodes of level l, s, were added to what stands below them in t
+
+abbrev pub Added : ℕ → ℕ → List ℕ → List ℕ → List ℕ → Type 0
+Added k l t s ys =
+    (putMid (64 * (l + 1)) (length t - 64 * (l + 1)) t ys ≡ xorPart t (64 * (l + 1)) (64 * (k - 1 - l)) (totalWord (part (32 * l) 32 s)))
+    × (length (putMid (64 * (l + 1)) (length t - 64 * (l + 1)) t ys) ≡ length t)
+
+pub totals-back : (k l : ℕ) (t s ys nodes : List ℕ) → l + 1 < k → length t ≡ 64 * k
+    → ys ≡ xorEach (part (64 * (l + 1)) (length t - 64 * (l + 1)) t) (totalWord nodes) → nodes ≡ part (32 * l) 32 s → Added k l t s ys
+totals-back k l t s ys nodes more long walked read =
+    let fits : 64 * (l + 1) + 64 * (k - 1 - l) ≡ length t = omega arith in
+    let e = part-added (64 * (l + 1)) (length t) (64 * (k - 1 - l)) t ys (totalWord nodes) (sym fits) walked
+    ∙ ap (λ (n : List ℕ). xorPart t (64 * (l + 1)) (64 * (k - 1 - l)) (totalWord n)) read in
+    (e, ap length e ∙ xorPart-length t (64 * (l + 1)) (64 * (k - 1 - l)) (totalWord (part (32 * l) 32 s)) (omega arith))

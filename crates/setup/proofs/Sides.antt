@@ -6,14 +6,16 @@ use Prim.Native.Nat.{ℕ, _+_, _-_, _*_, _/_, _%_, _^_, _≤_, _<_}
 use native.Mathlib.Nat.{zero-mul, one-mul}
 use native.Mathlib.Omega.{arith}
 use lib.Bits.{bitXor, bitAnd, xor-lt, xor-zero-r}
-use lib.ListN.{getD}
+use lib.ListN.{length, getD}
 use Rattle.words.specs.Bits.{bitAt}
 use Rattle.words.proofs.Xor.{digit, bit-lt, xor-cancel, and-bit}
 use Rattle.words.proofs.Sums.{ofBits-bit}
+use Rattle.words.proofs.Lists.{tabulate-length, tabulate-at, tabulate-lt}
 use Rattle.answer.specs.Answer.{widthAllowed}
 use Rattle.answer.proofs.Laws.{width-cases}
 use Rattle.tree.specs.Layout.{deltaOf}
 use Rattle.setup.specs.Setup.{sideOf}
+use Rattle.setup.specs.Sides.{sidesOf, Sides}
 
 -- of two elements 32 places apart, words of w bits, a mask that is all ones or none takes the one on its side
 pub chosen : (w : ℕ) (t : List ℕ) (j side mask : ℕ) → getD t j 0 < 2 ^ w → getD t (32 + j) 0 < 2 ^ w → side < 2
@@ -52,16 +54,29 @@ side-bit k h delta c =
         width-cases (λ (k : ℕ). (c : ℕ) → k - 1 - c % k < k)
         (λ c. omega arith) (λ c. omega arith) (λ c. omega arith) (λ c. omega arith)
 
+-- ---- the sides of all base transfers
+
+pub sides-length : (k : ℕ) (delta : List ℕ) → length (sidesOf k delta) ≡ 128
+sides-length k delta = tabulate-length 128 (λ c. sideOf k (deltaOf k delta (c / k)) (c % k))
+
+pub sides-at : (k : ℕ) (delta : List ℕ) (c : ℕ) → c < 128 → getD (sidesOf k delta) c 0 ≡ sideOf k (deltaOf k delta (c / k)) (c % k)
+sides-at k delta = tabulate-at 128 (λ c. sideOf k (deltaOf k delta (c / k)) (c % k))
+
 pub side-lt : (k d l : ℕ) → sideOf k d l < 2
 side-lt k d l = omega arith
+
+pub sides-lt : (k : ℕ) (delta : List ℕ) → Sides (sidesOf k delta)
+sides-lt k delta = tabulate-lt 128 2 (λ c. sideOf k (deltaOf k delta (c / k)) (c % k)) (omega arith) (λ c. side-lt k _ _)
 
 -- ---- the levels of the base transfers in turn
 
 -- the bit's place is inside delta
-pub level-fits : (k : ℕ) → widthAllowed k ≡ true → (c : ℕ) → c < 128
-    → (0 < k) × (k ≤ 8) × (c % k < k) × (c % k ≤ c) × (c - c % k + (k - 1 - c % k) < 128)
+abbrev pub LevelFits : ℕ → ℕ → ℕ → Type 0
+LevelFits k c l = (0 < k) × (k ≤ 8) × (l < k) × (l ≤ c) × (c - l + (k - 1 - l) < 128)
+
+pub level-fits : (k : ℕ) → widthAllowed k ≡ true → (c : ℕ) → c < 128 → LevelFits k c (c % k)
 level-fits =
-    width-cases (λ (k : ℕ). (c : ℕ) → c < 128 → (0 < k) × (k ≤ 8) × (c % k < k) × (c % k ≤ c) × (c - c % k + (k - 1 - c % k) < 128))
+    width-cases (λ (k : ℕ). (c : ℕ) → c < 128 → LevelFits k c (c % k))
     (λ c h. omega arith) (λ c h. omega arith) (λ c h. omega arith) (λ c h. omega arith)
 
 pub level-first : (k : ℕ) → widthAllowed k ≡ true → 0 ≡ 0 % k

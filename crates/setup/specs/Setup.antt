@@ -19,6 +19,7 @@ use Rattle.answer.specs.Answer.{unless, both, widthAllowed, whenDone}
 unfoldable pub treeMessage : ℕ → List ℕ → List ℕ → List ℕ
 treeMessage k root pads = concat k (λ l. concat 2 (λ s. xorList (totalOf root l s) (part (64 * l + 32 * s) 32 pads)))
 
+-- and that of all trees stands in tree order, so in base-transfer order
 unfoldable pub messageOf : ℕ → List ℕ → List ℕ → List ℕ
 messageOf k roots pads = concat (treesOf k) (λ i. treeMessage k (rootOf roots i) (treePart k 64 i pads))
 
@@ -28,12 +29,12 @@ messageOf k roots pads = concat (treesOf k) (λ i. treeMessage k (rootOf roots i
 abbrev pub sideOf : ℕ → ℕ → ℕ → ℕ
 sideOf k d level = 1 - pathBit k d level
 
--- the sender unmasks one total per level, of a tree of k levels
+-- the sender unmasks one total per level: of its side, by the pad that it has
 unfoldable pub unmasked : ℕ → (ℕ → ℕ) → List ℕ → List ℕ → List ℕ
 unmasked k side message pads =
     concat k (λ l. tabulate 32 (λ j. getD message (64 * l + 32 * side l + j) 0 ⊕ getD pads (32 * l + j) 0))
 
--- takes off the children of that side it can make, of the nodes found at the levels above, and so gets one node
+-- it takes off the children of that side which it can make of the nodes found at the levels above, and so gets one node
 unfoldable pub nextNode : (ℕ → ℕ) → List ℕ → List ℕ → ℕ → List ℕ
 nextNode side totals found level =
     tabulate 32 (λ j.
@@ -56,7 +57,7 @@ siblingsOf k delta pads message =
 
 -- ---- what an honest setup has
 
--- the pads that the sender has
+-- of each base transfer's two pads, pad 0 before pad 1, the one that the sender has
 unfoldable pub senderPads : ℕ → List ℕ → List ℕ → List ℕ
 senderPads k delta pads =
     concat (treesOf k) (λ i. concat k (λ l. part (64 * l + 32 * sideOf k (deltaOf k delta i) l) 32 (treePart k 64 i pads)))
@@ -74,6 +75,7 @@ receiverSetupAnswer k roots pads message =
     (unless (both (eqb roots (32 * treesOf k)) (both (eqb pads 8192) (eqb message 8192))) Length
     Done)
 
+-- all that the receiver's setup promises, whatever it is given: its answer, and what the message then holds
 pub record ReceiverSetup (width : ℕ) (roots pads message : List ℕ) (answer : Answer) (message′ : List ℕ) : Type 0 where
   pub answered : answer ≡ receiverSetupAnswer width (length roots) (length pads) (length message)
   pub written : message′ ≡ whenDone answer (messageOf width roots pads) message
@@ -85,6 +87,7 @@ senderSetupAnswer k delta pads message siblings =
     (unless (both (eqb delta 16) (both (eqb pads 4096) (both (eqb message 8192) (eqb siblings 4096)))) Length
     Done)
 
+-- all that the sender's setup promises, whatever it is given: its answer, and what the siblings then hold
 pub record SenderSetup (width : ℕ) (delta pads message siblings : List ℕ) (answer : Answer) (siblings′ : List ℕ) : Type 0 where
   pub answered : answer ≡ senderSetupAnswer width (length delta) (length pads) (length message) (length siblings)
   pub written : siblings′ ≡ whenDone answer (siblingsOf width delta pads message) siblings

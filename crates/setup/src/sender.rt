@@ -4,13 +4,14 @@ ghost use mathlib.Core.Path.{_≡_};
 ghost use mathlib.Core.Bool.{true};
 ghost use Prim.Native.Nat.{ℕ, _+_, _-_, _*_, _/_, _%_, _^_, _≤_, _<_};
 ghost use lib.ListN.{length, getD};
-ghost use Rattle.words.specs.Bytes.{tabulate, part, concat};
+ghost use Rattle.words.specs.Bytes.{tabulate, part};
 ghost use Rattle.words.specs.Lanes.{laneBytes};
 ghost use Rattle.words.specs.Xor.{_⊕_, xorEach, xorPart};
 ghost use Rattle.answer.specs.Answer.{widthAllowed};
 ghost use Rattle.tree.specs.Lanes.{totalWord};
-ghost use Rattle.tree.specs.Layout.{columns, treesOf, deltaOf, treePart};
-ghost use Rattle.setup.specs.Setup.{sideOf, unmasked, nodesFound, siblingsOf, senderSetupAnswer};
+ghost use Rattle.tree.specs.Layout.{columns, treesOf};
+ghost use Rattle.setup.specs.Setup.{unmasked, nodesFound, siblingsOf, senderSetupAnswer};
+ghost use Rattle.setup.specs.Sides.{sidesOf, Sides, foundIn};
 
 // The answer of the sender's setup, from its width and the lengths of its ranges.
 pub fn setup_answer(
@@ -40,11 +41,11 @@ pub fn setup_answer(
     Answer::Done
 }
 
-// For each base transfer the side whose total the sender can unmask. (Kept in memory, where the compiler can't see that it is a bit:
-// a mask made of a bit that it can see becomes a branch again.)
+// For each base transfer the side whose total the sender can unmask: 1 minus the path's bit, which is delta's highest of the tree at
+// level 0. (In memory the compiler doesn't see that a side is a bit: where it sees that, it may turn a mask back into a branch.)
 fn sides(k: usize, delta: &[u8]) -> [u8; 128]
     requires { ⌜ (widthAllowed k ≡ true) × (length (now delta) ≡ 16) ⌝ }
-    ensures { λ r. ⌜ r ≡ tabulate columns (λ c. sideOf k (deltaOf k (now (delta .entry)) (c / k)) (c % k)) ⌝ }
+    ensures { λ r. ⌜ r ≡ sidesOf k (now (delta .entry)) ⌝ }
 {
     let mut r = [0u8; 128];
     let mut c = 0;
@@ -86,7 +87,7 @@ fn unmask(out: &mut [u8], totals: &[u8], pad: &[u8], side: u8)
 
 // The unmasked totals of all base transfers.
 fn unmask_all(sides: &[u8], pads: &[u8], message: &[u8], siblings: &mut [u8])
-    requires { ⌜ (length (now sides) ≡ 128) × ((c : ℕ) → getD (now sides) c 0 < 2) ⌝ }
+    requires { ⌜ (length (now sides) ≡ 128) × Sides (now sides) ⌝ }
     requires { ⌜ (length (now pads) ≡ 4096) × (length (now message) ≡ 8192) × (length (now siblings) ≡ 4096) ⌝ }
     ensures { λ _. ⌜ now (siblings .exit) ≡ unmasked columns (λ c. getD (now (sides .entry)) c 0) (now (message .entry)) (now (pads .entry)) ⌝ }
 {
@@ -106,9 +107,9 @@ fn unmask_all(sides: &[u8], pads: &[u8], message: &[u8], siblings: &mut [u8])
     }
 }
 
-// Adds to four nodes one side each of four levels' totals.
+// Adds to four nodes, in lanes, the totals of a level, of one side in each lane.
 fn take_off(nodes: &mut [u32], totals: &[u32], sides: [u8; 4])
-    requires { ⌜ (length (now nodes) ≡ 32) × (length (now totals) ≡ 64) × ((l : ℕ) → getD sides l 0 < 2) ⌝ }
+    requires { ⌜ (length (now nodes) ≡ 32) × (length (now totals) ≡ 64) × Sides sides ⌝ }
     ensures { λ _. ⌜ now (nodes .exit) ≡ xorEach (now (nodes .entry)) (λ i. getD (now (totals .entry)) (32 * getD sides (i % 4) 0 + i) 0) ⌝ }
 {
     let mut i = 0;
@@ -136,7 +137,7 @@ fn lane_sides(k: usize, level: usize, sides: &[u8]) -> [u8; 4]
 // From the nodes found at a level to those of the next, in four trees of k levels: t has what the nodes found above it make at each
 // level, s the nodes found so far and the unmasked totals of the levels after them.
 fn next_level(k: usize, level: usize, sides: &[u8], t: &mut [u32], s: &mut [u32])
-    requires { ⌜ (level + 1 < k) × (k ≤ 8) × (length (now sides) ≡ 4 * k) × ((c : ℕ) → getD (now sides) c 0 < 2) ⌝ }
+    requires { ⌜ (level + 1 < k) × (k ≤ 8) × (length (now sides) ≡ 4 * k) × Sides (now sides) ⌝ }
     requires { ⌜ (length (now t) ≡ 64 * k) × (length (now s) ≡ 32 * k) ⌝ }
     ensures { λ _. ⌜ now (t .exit) ≡ xorPart (now (t .entry)) (64 * (level + 1)) (64 * (k - 1 - level)) (totalWord (part (32 * level) 32 (now (s .entry)))) ⌝ }
     ensures { λ _. ⌜ now (s .exit) ≡ xorPart (now (s .entry)) (32 * (level + 1)) 32 (λ i. getD (now (t .exit)) (64 * (level + 1) + (32 * getD (now (sides .entry)) (i % 4 * k + (level + 1)) 0 + i)) 0) ⌝ }
@@ -157,7 +158,7 @@ fn next_level(k: usize, level: usize, sides: &[u8], t: &mut [u32], s: &mut [u32]
 
 // All levels of four trees of k levels.
 fn all_levels(k: usize, sides: &[u8], t: &mut [u32], s: &mut [u32])
-    requires { ⌜ (0 < k) × (k ≤ 8) × (length (now sides) ≡ 4 * k) × ((c : ℕ) → getD (now sides) c 0 < 2) ⌝ }
+    requires { ⌜ (0 < k) × (k ≤ 8) × (length (now sides) ≡ 4 * k) × Sides (now sides) ⌝ }
     requires { ⌜ (length (now t) ≡ 64 * k) × (length (now s) ≡ 32 * k) × ((i : ℕ) → getD (now t) i 0 ≡ 0) ⌝ }
     ensures { λ _. ⌜ ((i : ℕ) → i < 4 → laneBytes i (8 * k) (now (s .exit)) ≡ nodesFound (λ l. getD (now (sides .entry)) (i * k + l) 0) (laneBytes i (8 * k) (now (s .entry))) k) ⌝ }
 {
@@ -168,20 +169,21 @@ fn all_levels(k: usize, sides: &[u8], t: &mut [u32], s: &mut [u32])
     }
 }
 
-// The siblings of four trees of k levels, in the place of their unmasked totals. t and s are for work: t is zero.
+// The siblings of four trees of k levels, in the place of their unmasked totals, worked out in t and s. t is zero.
 fn four_in_lanes(k: usize, sides: &[u8], siblings: &mut [u8], t: &mut [u32], s: &mut [u32])
-    requires { ⌜ (0 < k) × (k ≤ 8) × (length (now sides) ≡ 4 * k) × ((c : ℕ) → getD (now sides) c 0 < 2) × (length (now siblings) ≡ 4 * (32 * k)) ⌝ }
+    requires { ⌜ (0 < k) × (k ≤ 8) × (length (now sides) ≡ 4 * k) × Sides (now sides) × (length (now siblings) ≡ 4 * (32 * k)) ⌝ }
     requires { ⌜ (length (now t) ≡ 64 * k) × (length (now s) ≡ 32 * k) × ((i : ℕ) → getD (now t) i 0 ≡ 0) ⌝ }
-    ensures { λ _. ⌜ now (siblings .exit) ≡ concat 4 (λ i. nodesFound (λ l. getD (now (sides .entry)) (i * k + l) 0) (treePart k 32 i (now (siblings .entry))) k) ⌝ }
+    ensures { λ _. ⌜ now (siblings .exit) ≡ foundIn k 4 (now (sides .entry)) (now (siblings .entry)) ⌝ }
 {
     words::load_lanes(s, siblings);
     all_levels(k, sides, t, s);
     words::store_lanes(siblings, s);
 }
 
+// The same, with room of its own.
 fn four_trees(k: usize, sides: &[u8], siblings: &mut [u8])
-    requires { ⌜ (0 < k) × (k ≤ 8) × (length (now sides) ≡ 4 * k) × ((c : ℕ) → getD (now sides) c 0 < 2) × (length (now siblings) ≡ 4 * (32 * k)) ⌝ }
-    ensures { λ _. ⌜ now (siblings .exit) ≡ concat 4 (λ i. nodesFound (λ l. getD (now (sides .entry)) (i * k + l) 0) (treePart k 32 i (now (siblings .entry))) k) ⌝ }
+    requires { ⌜ (0 < k) × (k ≤ 8) × (length (now sides) ≡ 4 * k) × Sides (now sides) × (length (now siblings) ≡ 4 * (32 * k)) ⌝ }
+    ensures { λ _. ⌜ now (siblings .exit) ≡ foundIn k 4 (now (sides .entry)) (now (siblings .entry)) ⌝ }
 {
     let m = 64 * k;
     let n = 32 * k;
@@ -192,8 +194,8 @@ fn four_trees(k: usize, sides: &[u8], siblings: &mut [u8])
 
 // The siblings of all trees, in the place of their unmasked totals.
 fn all_trees(k: usize, sides: &[u8], siblings: &mut [u8])
-    requires { ⌜ (widthAllowed k ≡ true) × (length (now sides) ≡ 128) × ((c : ℕ) → getD (now sides) c 0 < 2) × (length (now siblings) ≡ 4096) ⌝ }
-    ensures { λ _. ⌜ now (siblings .exit) ≡ concat (treesOf k) (λ i. nodesFound (λ l. getD (now (sides .entry)) (i * k + l) 0) (treePart k 32 i (now (siblings .entry))) k) ⌝ }
+    requires { ⌜ (widthAllowed k ≡ true) × (length (now sides) ≡ 128) × Sides (now sides) × (length (now siblings) ≡ 4096) ⌝ }
+    ensures { λ _. ⌜ now (siblings .exit) ≡ foundIn k (treesOf k) (now (sides .entry)) (now (siblings .entry)) ⌝ }
 {
     let n = 128 / k;
     let size = 32 * k;

@@ -39,6 +39,11 @@ module _ (width : ℕ) (roots pads message message′ delta siblings siblings′
       let long : treesOf width * (64 * width) ≤ length pads = omega (arith, fits .pairs) in (
         done,
         sent .answered
-            ∙ sender-done _ _ _ _ _
-            (allowed, d, senderPads-length width delta pads long ∙ fits .single, ap length (message-is done) ∙ messageOf-length width roots pads ∙ fits .pairs, s),
+            ∙ sender-done _ _ _ _ _ (
+              allowed,
+              d,
+              senderPads-length width delta pads long ∙ fits .single,
+              ap length (message-is done) ∙ messageOf-length width roots pads ∙ fits .pairs,
+              s,
+            ),
       )

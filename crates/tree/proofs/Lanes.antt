@@ -146,5 +146,6 @@ total-lane nodes l x hl =
     (sum-map (λ z. getD (bytes 4 z) (x % 64 % 4) 0) (λ p q. bytes-xor 4 p q (x % 64 % 4)) (x / 64) (keyIn l nodes) 0 (childWord (x % 64 / 4)))
     ∙ bytes-sum (x / 64) (keyIn l nodes)
   where
-    bytes-sum : (q : ℕ) (n : List ℕ) → sumBelow q n 0 (λ y m. getD (bytes 4 (childWord (x % 64 / 4) y m)) (x % 64 % 4) 0) ≡ sumBelow q n 0 (λ y m. getD (childrenOf m) (x % 64) 0)
+    bytes-sum : (q : ℕ) (n : List ℕ) → sumBelow q n 0 (λ y m. getD (bytes 4 (childWord (x % 64 / 4) y m)) (x % 64 % 4) 0)
+        ≡ sumBelow q n 0 (λ y m. getD (childrenOf m) (x % 64) 0)
     bytes-sum q n = sum-same q n 0 _ (λ y m. getD (childrenOf m) (x % 64) 0) (λ y m e. sym (children-byte m y (x % 64) (omega arith)))

@@ -8,7 +8,7 @@ use native.Mathlib.Decide.{decLt, ℕ-discrete}
 use native.Mathlib.Numerals.{add-one}
 use lib.ListN.{length, getD, take, drop, length-append, length-drop, length-take, List·getD-eq-default}
 use lib.Seq.{getD-take, getD-drop, take-at, take-all, take-nil, take-take, take-add, drop-at, drop-drop, take-append-le, drop-append-le, length-take-le}
-use borrow.Rule.Slice.PartMut.{putMid, postOf, same-len-mid, mid-len}
+use borrow.Rule.Slice.PartMut.{putMid, postOf, same-len-mid, mid-len, drop-put}
 use Rattle.words.specs.Bytes.{part, concat}
 
 -- places of lists of m elements, one after the other
@@ -82,6 +82,18 @@ concat-grow f i c a e xs ys more size le fits before =
           ∙ ap₂ (λ (x y : List ℕ). x ++ y) before more
           ∙ sym (concat-add i c f),
     )
+
+-- what stands after the part that comes back is as it was
+pub rest-kept : (a e : ℕ) (xs ys zs new : List ℕ) → ys ≡ new → length new ≡ e - a → a ≤ e → e ≤ length xs → drop a xs ≡ drop a zs
+    → drop e (putMid a (e - a) xs ys) ≡ drop e zs
+rest-kept a e xs ys zs new made size le fits same =
+    let back : a + (e - a) ≡ e = omega arith in
+    drop-put a e xs ys le fits (ap length made ∙ size)
+    ∙ ap (λ (n : ℕ). drop n xs) (sym back)
+    ∙ sym (drop-drop (e - a) a xs)
+    ∙ ap (drop (e - a)) same
+    ∙ drop-drop (e - a) a zs
+    ∙ ap (λ (n : ℕ). drop n zs) back
 
 -- a single list
 pub concat-one : (f : ℕ → List ℕ) (i : ℕ) → f i ≡ concat 1 (λ j. f (i + j))

@@ -33,7 +33,18 @@ totals-below t = and 2 totals-kinds.ps (falls 2 totals-kinds.ps _<_ μ-totals t)
 
 -- what is known of the callees: of each but itself its own contract
 abbrev claims : ℕ → totals-lts.Claims
-claims t = (nonce-reads.Asked, nonce-reads.Learnt, block-reads.Asked, block-reads.Learnt, xor-words-reads.Asked, xor-words-reads.Learnt, nodes-at-reads.Asked, nodes-at-reads.Learnt, totals-below t, totals.Post)
+claims t = (
+  nonce-reads.Asked,
+  nonce-reads.Learnt,
+  block-reads.Asked,
+  block-reads.Learnt,
+  xor-words-reads.Asked,
+  xor-words-reads.Learnt,
+  nodes-at-reads.Asked,
+  nodes-at-reads.Learnt,
+  totals-below t,
+  totals.Post,
+)
 
 totals-nonce-requires : (t : ℕ) → totals-lts.Need-nonce-requires (claims t) (totals-at t) totals.Post
 totals-nonce-requires t c κs = search needs
@@ -102,21 +113,30 @@ totals-same-length : (t : ℕ) → totals-lts.Need-same-length (claims t) (total
 totals-same-length t c = search needs
 
 totals-returns : (t : ℕ) → totals-lts.Need-returns (claims t) (totals-at t) totals.Post
-totals-returns t c = let s = c .before .before .before .before .before .before .before .before .before .before .before .before .before .before .before .before .before .before .before .before .before .before .before .before in
+totals-returns t c =
+    let after = c .before .before in
+    let right = after .before .before .before in
+    let between = right .before .before .before .before in
+    let left = between .before .before .before in
+    let first = left .before .before .before .before in
+    let made = first .before .before .before in
+    let s = made .before .before .before .before .before in
+    let nodes = s .args .nodes .now in
     let t₀ = s .args .t .now in
-    let more : 0 < s .args .levels = c .before .before .before .before .before .before .before .before .before .before .before .before .before .before .before .before .before .before .before .before .before .before .if1 .taken in
+    let more : 0 < s .args .levels = made .before .before .before .if1 .taken in
     let room : 64 ≤ length t₀ = omega (arith, s .pre .1) in
-    let block : _ ≡ blocksOf (s .args .nodes .now) 0 (nonceOf 0 0) = c .before .before .before .before .before .before .before .before .before .before .before .before .before .before .before .before .before .before .before .block .ensures ∙ ap (blocksOf (s .args .nodes .now) 0) (c .before .before .before .before .before .before .before .before .before .before .before .before .before .before .before .before .before .before .before .before .before .nonce .ensures) in
-    let t₁ = putMid 0 (64 - 0) t₀ (c .before .before .before .before .before .before .before .before .before .before .before .before .before .before .before .before .xor-words .last .0) in
-    let e₁ = part-added 0 64 64 t₀ _ _ refl (c .before .before .before .before .before .before .before .before .before .before .before .before .before .before .before .before .xor-words .ensures) in
+    let block : _ ≡ blocksOf nodes 0 (nonceOf 0 0) = made .block .ensures ∙ ap (blocksOf nodes 0) (made .before .before .nonce .ensures) in
+    let e₁ = part-added 0 64 64 t₀ _ _ refl (first .xor-words .ensures) in
+    let t₁ = putMid 0 (64 - 0) t₀ (first .xor-words .last .0) in
     let l₁ : length t₁ ≡ length t₀ = ap length e₁ ∙ xorPart-length t₀ 0 64 _ (omega arith) in
-    let e₂ = part-added 64 (length t₁) (length t₁ - 64) t₁ _ _ (omega (arith, l₁)) (c .before .before .before .before .before .before .before .before .before .totals .ensures) in
-    let t₂ = putMid 64 (length t₁ - 64) t₁ (c .before .before .before .before .before .before .before .before .before .totals .last .1 .1 .0) in
+    let e₂ = part-added 64 (length t₁) (length t₁ - 64) t₁ _ _ (omega (arith, l₁)) (between .totals .ensures) in
+    let t₂ = putMid 64 (length t₁ - 64) t₁ (between .totals .last .1 .1 .0) in
     let l₂ : length t₂ ≡ length t₁ = ap length e₂ ∙ xorPart-length t₁ 64 (length t₁ - 64) _ (omega (arith, l₁)) in
-    totals-added (s .args .nodes .now) _ _
-    (child-in (s .args .nodes .now) _ _ 0 (omega arith) block (c .before .before .before .before .before .before .before .before .before .before .before .before .nodes-at .ensures)) (child-in (s .args .nodes .now) _ _ 1 (omega arith) block (c .before .before .before .before .before .nodes-at2 .ensures))
+    totals-added nodes _ _
+    (child-in nodes _ _ 0 (omega arith) block (left .nodes-at .ensures))
+    (child-in nodes _ _ 1 (omega arith) block (right .nodes-at2 .ensures))
     _ t₀ t₁ t₂ _ room block e₁ e₂
-    (part-added 64 (length t₂) (length t₂ - 64) t₂ _ _ (omega (arith, l₁, l₂)) (c .before .before .totals2 .ensures))
+    (part-added 64 (length t₂) (length t₂ - 64) t₂ _ _ (omega (arith, l₁, l₂)) (after .totals2 .ensures))
 
 totals-returns-2 : (t : ℕ) → totals-lts.Need-returns-2 (claims t) (totals-at t) totals.Post
 totals-returns-2 t c = xorEach-none (c .before .before .args .t .now) _ (omega arith)

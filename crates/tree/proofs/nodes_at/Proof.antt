@@ -2,6 +2,7 @@
 use mathlib.Core.Path.{sym, _∙_}
 use Prim.Native.Nat.{ℕ, _-_, _≤_}
 use native.Mathlib.Omega.{arith}
+use mathlib.Core.List.{List}
 use lib.ListN.{length, length-replicate}
 use borrow.Author.Needs.{needs}
 use Rattle.words.specs.Bytes.{part}
@@ -41,15 +42,20 @@ loop-less : tie.Need-loop-less Inv-loop μ-loop
 loop-less c = search needs
 
 loop-again : tie.Need-loop-again Inv-loop μ-loop
-loop-again c = let a = c .before .before .before .args in
+loop-again c =
+    let s = c .before .before .before in
     let w = c .before .before .loop in
-    let fits = c .before .before .before .pre in
-    (omega arith, begun-set (w .i) _ (part (a .at) 32 (a .s .now)) _ (omega (arith, part-length (a .at) 32 (a .s .now) fits)) (sym (part-at (a .at) 32 (a .s .now) (w .i) (omega arith))) (w .inv .1))
+    let nodes : List ℕ = part (s .args .at) 32 (s .args .s .now) in
+    let long = part-length (s .args .at) 32 (s .args .s .now) (s .pre) in
+    let here = sym (part-at (s .args .at) 32 (s .args .s .now) (w .i) (omega arith)) in
+    (omega arith, begun-set (w .i) _ nodes _ (omega (arith, long)) here (w .inv .1))
 
 returns : tie.Need-returns Inv-loop μ-loop
-returns c = let a = c .before .before .args in
+returns c =
+    let s = c .before .before in
     let w = c .before .loop in
-    begun-all (w .i) (part (a .at) 32 (a .s .now)) _ (omega (arith, part-length (a .at) 32 (a .s .now) (c .before .before .pre))) (w .inv .1)
+    let long = part-length (s .args .at) 32 (s .args .s .now) (s .pre) in
+    begun-all (w .i) (part (s .args .at) 32 (s .args .s .now)) _ (omega (arith, long)) (w .inv .1)
 
 pub nodes-at-spec : {M : Type 1} → statement M
 nodes-at-spec =

@@ -16,7 +16,8 @@ use Rattle.words.proofs.store_lane.Statement.{statement}
 use Rattle.words.proofs.store_lane.Tie as tie
 
 abbrev Inv-loop : tie.InvT-loop
-Inv-loop out₀ t l n i₀ out i = (i ≤ n) × (i % 4 ≡ 0) × (length out ≡ n) × ((x : ℕ) → x < i → getD out x 0 ≡ getD (laneBytes l (n / 4) t) x 0)
+Inv-loop out₀ t l n i₀ out i =
+    (i ≤ n) × (i % 4 ≡ 0) × (length out ≡ n) × ((x : ℕ) → x < i → getD out x 0 ≡ getD (laneBytes l (n / 4) t) x 0)
 
 abbrev μ-loop : tie.MeasureT-loop
 μ-loop out₀ t l n i₀ out i = n - i
@@ -37,33 +38,41 @@ store32-requires : tie.Need-store32-requires Inv-loop μ-loop
 store32-requires c κs = omega (arith, c .before .before .before .before .before .before .pre)
 
 add-i : tie.Need-add-i Inv-loop μ-loop
-add-i c = omega (arith, c .before .before .before .before .before .before .before .before .before .pre, c .before .before .before .before .before .before .before .before .before .good)
+add-i c =
+    let s = c .before .before .before .before .before .before .before .before .before in
+    omega (arith, s .pre, s .good)
 
 loop-less : tie.Need-loop-less Inv-loop μ-loop
 loop-less c = omega arith
 
 loop-again : tie.Need-loop-again Inv-loop μ-loop
-loop-again c = let s = c .before .before .before .before .before .before .before .before .before in
+loop-again c =
+    let s = c .before .before .before .before .before .before .before .before .before in
     let w = c .before .before .before .before .before .before .loop in
     let done = c .before .before .store32 .ensures in
-    let word : ℕ = getD (s .args .t .now) (w .i + s .args .l) 0 in
-    let quarter : length (s .args .out .now) ≡ 4 * (length (s .args .out .now) / 4) = omega (arith, s .pre) in (
+    let t = s .args .t .now in
+    let n : ℕ = length (s .args .out .now) in
+    let word : ℕ = getD t (w .i + s .args .l) 0 in
+    let quarter : n ≡ 4 * (n / 4) = omega (arith, s .pre) in (
       omega (arith, s .pre),
       omega arith,
       ap length done ∙ put-length (w .out) (w .i) (bytes 4 word) (omega (arith, bytes-length 4 word, s .pre)) ∙ w .inv .2,
       λ x h.
           ap (λ (d : List ℕ). getD d x 0) done
-          ∙ lane-more (s .args .l) (length (s .args .out .now) / 4) (s .args .t .now) (w .out) (w .i) (w .inv .1) (omega (arith, quarter)) (w .inv .2 ∙ quarter) (w .inv .3) x h,
+          ∙ lane-more (s .args .l) (n / 4) t (w .out) (w .i) (w .inv .1) (omega (arith, quarter)) (w .inv .2 ∙ quarter) (w .inv .3) x h,
     )
 
 same-length : tie.Need-same-length Inv-loop μ-loop
 same-length c = search needs
 
 returns : tie.Need-returns Inv-loop μ-loop
-returns c = let s = c .before .before .before .before in
+returns c =
+    let s = c .before .before .before .before in
     let w = c .before .loop in
-    let quarter : length (s .args .out .now) ≡ 4 * (length (s .args .out .now) / 4) = omega (arith, s .pre) in
-    ext-getD 0 (w .out) (laneBytes (s .args .l) (length (s .args .out .now) / 4) (s .args .t .now)) (w .inv .2 ∙ quarter ∙ sym (laneBytes-length (s .args .l) (length (s .args .out .now) / 4) (s .args .t .now)))
+    let n : ℕ = length (s .args .out .now) in
+    let lane : List ℕ = laneBytes (s .args .l) (n / 4) (s .args .t .now) in
+    let quarter : n ≡ 4 * (n / 4) = omega (arith, s .pre) in
+    ext-getD 0 (w .out) lane (w .inv .2 ∙ quarter ∙ sym (laneBytes-length (s .args .l) (n / 4) (s .args .t .now)))
     (λ x h. w .inv .3 x (omega arith))
 
 pub store-lane-spec : {M : Type 1} → statement M

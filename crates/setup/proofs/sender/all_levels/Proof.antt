@@ -19,14 +19,19 @@ abbrev μ-loop : tie.MeasureT-loop
 μ-loop k sides t₀ s₀ level₀ t s level = k - level
 
 loop-holds : tie.Need-loop-holds Inv-loop μ-loop
-loop-holds c = let s = c .before .before .before in
-    (s .pre .0 .0, s .pre .1 .0, s .pre .1 .1, λ i h. reached-none (s .args .k) _ (λ l. s .pre .0 .3 (i * s .args .k + l)) _ i h _ _ refl (s .pre .1 .2))
+loop-holds c =
+    let s = c .before .before .before in
+    let k = s .args .k in
+    (s .pre .0 .0, s .pre .1 .0, s .pre .1 .1, λ i h. reached-none k _ (λ l. s .pre .0 .3 (i * k + l)) _ i h _ _ refl (s .pre .1 .2))
 
 add-loop : tie.Need-add-loop Inv-loop μ-loop
 add-loop c = omega (arith, c .before .before .before .before .pre .0 .1)
 
 next-level-requires : tie.Need-next-level-requires Inv-loop μ-loop
-next-level-requires c κs = ((c .before .before .loop-test .taken, c .before .before .before .before .before .before .before .pre .0 .1, c .before .before .before .before .before .before .before .pre .0 .2, c .before .before .before .before .before .before .before .pre .0 .3), (c .before .before .before .loop .inv .1, c .before .before .before .loop .inv .2))
+next-level-requires c κs =
+    let s = c .before .before .before .before .before .before .before in
+    let w = c .before .before .before .loop in
+    ((c .before .before .loop-test .taken, s .pre .0 .1, s .pre .0 .2, s .pre .0 .3), (w .inv .1, w .inv .2))
 
 add-level : tie.Need-add-level Inv-loop μ-loop
 add-level c = omega (arith, c .before .before .before .before .before .before .before .before .before .before .before .before .pre .0 .1)
@@ -35,13 +40,18 @@ loop-less : tie.Need-loop-less Inv-loop μ-loop
 loop-less c = omega arith
 
 loop-again : tie.Need-loop-again Inv-loop μ-loop
-loop-again c = let s = c .before .before .before .before .before .before .before .before .before .before .before .before in
+loop-again c =
+    let s = c .before .before .before .before .before .before .before .before .before .before .before .before in
     let w = c .before .before .before .before .before .before .before .before .loop in
+    let k = s .args .k in
+    let more = c .before .before .before .before .before .before .before .loop-test .taken in
     let did = c .before .before .before .before .next-level in (
-      c .before .before .before .before .before .before .before .loop-test .taken,
+      more,
       did .kept .1 .1 .1 .0 ∙ w .inv .1,
       did .kept .1 .1 .1 .1 .0 ∙ w .inv .2,
-      λ i h. reached-next (s .args .k) _ (λ l. s .pre .0 .3 (i * s .args .k + l)) _ i h (w .level) (w .s) (w .t) _ _ (s .args .sides .now) (c .before .before .before .before .before .before .before .loop-test .taken) (w .inv .2) (w .inv .1) (λ j. refl) (w .inv .3 i h) (did .ensures .0) (did .ensures .1),
+      λ i h.
+          reached-next k _ (λ l. s .pre .0 .3 (i * k + l)) _ i h (w .level) (w .s) (w .t) _ _ (s .args .sides .now) more (w .inv .2) (w .inv .1)
+          (λ j. refl) (w .inv .3 i h) (did .ensures .0) (did .ensures .1),
     )
 
 same-length : tie.Need-same-length Inv-loop μ-loop
@@ -51,9 +61,11 @@ same-length-2 : tie.Need-same-length-2 Inv-loop μ-loop
 same-length-2 c = c .before .loop .inv .2 ∙ sym (c .before .before .before .before .before .pre .1 .1)
 
 returns : tie.Need-returns Inv-loop μ-loop
-returns c = let s = c .before .before .before .before .before in
+returns c =
+    let s = c .before .before .before .before .before in
     let w = c .before .loop in
-    λ i h. reached-all (s .args .k) _ (λ l. s .pre .0 .3 (i * s .args .k + l)) _ i h (w .level) (w .s) (w .t) (omega (arith, w .inv .0)) (w .inv .3 i h)
+    let k = s .args .k in
+    λ i h. reached-all k _ (λ l. s .pre .0 .3 (i * k + l)) _ i h (w .level) (w .s) (w .t) (omega (arith, w .inv .0)) (w .inv .3 i h)
 
 pub all-levels-spec : {M : Type 1} → statement M
 all-levels-spec =

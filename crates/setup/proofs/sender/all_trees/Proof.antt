@@ -5,12 +5,13 @@ use Prim.Native.Nat.{ℕ, zero, _+_, _-_, _*_, _%_, _≤_}
 use native.Mathlib.Omega.{arith}
 use lib.ListN.{length, getD, take, drop}
 use native.Mathlib.Nat.{zero-mul}
-use lib.Seq.{take-all, drop-drop}
-use borrow.Rule.Slice.PartMut.{mid-len, drop-put}
+use lib.Seq.{take-all}
+use borrow.Rule.Slice.PartMut.{mid-len}
 use Rattle.words.specs.Bytes.{concat}
-use Rattle.words.proofs.Concat.{concat-grow, concat-length, part-lt}
+use Rattle.words.proofs.Concat.{concat-grow, concat-length, part-lt, rest-kept}
 use Rattle.tree.specs.Layout.{treesOf, treePart}
 use Rattle.setup.specs.Setup.{nodesFound}
+use Rattle.setup.specs.Sides.{foundIn}
 use Rattle.setup.proofs.Widths.{width-fits, four-fit}
 use Rattle.setup.proofs.Levels.{found-length, four-found}
 use Rattle.setup.proofs.sender.all_trees.Statement.{statement}
@@ -21,7 +22,7 @@ Inv-loop k sides siblings₀ n size i₀ siblings i =
     (i % 4 ≡ 0)
     × (i ≤ treesOf k)
     × (length siblings ≡ 4096)
-    × (take (i * (32 * k)) siblings ≡ concat i (λ j. nodesFound (λ l. getD sides (j * k + l) 0) (treePart k 32 j siblings₀) k))
+    × (take (i * (32 * k)) siblings ≡ foundIn k i sides siblings₀)
     × (drop (i * (32 * k)) siblings ≡ drop (i * (32 * k)) siblings₀)
 
 abbrev μ-loop : tie.MeasureT-loop
@@ -53,31 +54,33 @@ room c =
     let k = c .before .before .before .before .args .k in
     let fits = width-fits k (c .before .before .before .before .pre .0) in
     let four = four-fit k (c .before .loop .i) fits (c .before .loop .inv .0) (c .loop-test .taken) in
-    (four k .0, fits .trees, four (32 * k) .1, omega (arith, four (32 * k) .2, fits .single), four k .1, omega (arith, four k .2, fits .columns))
+    let sides = four k in
+    let nodes = four (32 * k) in
+    (sides .0, fits .trees, nodes .1, omega (arith, nodes .2, fits .single), sides .1, omega (arith, sides .2, fits .columns))
 
 add-next : tie.Need-add-next Inv-loop μ-loop
-add-next c = omega (arith, room (c))
+add-next c = omega (arith, room c)
 
 mul-start : tie.Need-mul-start Inv-loop μ-loop
-mul-start c = omega (arith, room (c))
+mul-start c = omega (arith, room c)
 
 mul-end : tie.Need-mul-end Inv-loop μ-loop
-mul-end c = omega (arith, room (c))
+mul-end c = omega (arith, room c)
 
 mul-first : tie.Need-mul-first Inv-loop μ-loop
-mul-first c = omega (arith, room (c))
+mul-first c = omega (arith, room c)
 
 mul-last : tie.Need-mul-last Inv-loop μ-loop
-mul-last c = omega (arith, room (c))
+mul-last c = omega (arith, room c)
 
 sub-four-trees : tie.Need-sub-four-trees Inv-loop μ-loop
-sub-four-trees c = omega (arith, room (c))
+sub-four-trees c = omega (arith, room c)
 
 part-four-trees-start : tie.Need-part-four-trees-start Inv-loop μ-loop
-part-four-trees-start c = omega (arith, room (c))
+part-four-trees-start c = omega (arith, room c)
 
 part-four-trees-end : tie.Need-part-four-trees-end Inv-loop μ-loop
-part-four-trees-end c = omega (arith, room (c), c .before .before .before .before .pre .1)
+part-four-trees-end c = omega (arith, room c, c .before .before .before .before .pre .1)
 
 sub-four-trees-2 : tie.Need-sub-four-trees-2 Inv-loop μ-loop
 sub-four-trees-2 c = omega (arith, room (c .before))
@@ -107,40 +110,38 @@ loop-less : tie.Need-loop-less Inv-loop μ-loop
 loop-less c = omega (arith, room (c .before .before .before .before .before))
 
 loop-again : tie.Need-loop-again Inv-loop μ-loop
-loop-again c = let s = c .before .before .before .before .before .before .before .before .before in
+loop-again c =
+    let s = c .before .before .before .before .before .before .before .before .before in
     let w = c .before .before .before .before .before .before .loop in
     let here = room (c .before .before .before .before .before) in
     let k = s .args .k in
+    let sides = s .args .sides .now in
+    let totals = s .args .siblings .now in
     let m : ℕ = 32 * k in
     let a : ℕ = w .i * m in
     let e : ℕ = (w .i + 4) * m in
-    let f : ℕ → List ℕ = λ j. nodesFound (λ l. getD (s .args .sides .now) (j * k + l) 0) (treePart k 32 j (s .args .siblings .now)) k in
+    let f : ℕ → List ℕ = λ j. nodesFound (λ l. getD sides (j * k + l) 0) (treePart k 32 j totals) k in
     let turn : k * 32 ≡ m = omega arith in
     let whole : 4 * m ≡ e - a = omega (arith, here) in
     let size = concat-length (λ j. f (w .i + j)) m 4 (λ j h. found-length _ _ k ∙ turn) ∙ whole in
-    let made = c .before .before .four-trees .ensures ∙ four-found k (w .i) (s .args .sides .now) (s .args .siblings .now) (w .siblings) (w .inv .4) in
+    let made = c .before .before .four-trees .ensures ∙ four-found k (w .i) sides totals (w .siblings) (w .inv .4) in
     let grown = concat-grow f (w .i) 4 a e (w .siblings) _ made size (omega (arith, here)) (omega (arith, here, w .inv .2)) (w .inv .3) in
-    let back : a + (e - a) ≡ e = omega (arith, here) in (
-      omega (arith, w .inv .0),
-      here .0,
-      grown .0 ∙ w .inv .2,
-      grown .1,
-      drop-put a e (w .siblings) (c .before .before .four-trees .last .1 .1 .0) (omega (arith, here)) (omega (arith, here, w .inv .2)) (ap length made ∙ size)
-          ∙ ap (λ (n : ℕ). drop n (w .siblings)) (sym back) ∙ sym (drop-drop (e - a) a (w .siblings)) ∙ ap (drop (e - a)) (w .inv .4) ∙ drop-drop (e - a) a (s .args .siblings .now) ∙ ap (λ (n : ℕ). drop n (s .args .siblings .now)) back,
-    )
+    let rest = rest-kept a e (w .siblings) _ totals _ made size (omega (arith, here)) (omega (arith, here, w .inv .2)) (w .inv .4) in
+    (omega (arith, w .inv .0), here .0, grown .0 ∙ w .inv .2, grown .1, rest)
 
 same-length : tie.Need-same-length Inv-loop μ-loop
 same-length c = c .before .loop .inv .2 ∙ sym (c .before .before .before .before .pre .3)
 
 returns : tie.Need-returns Inv-loop μ-loop
-returns c = let s = c .before .before .before .before in
+returns c =
+    let s = c .before .before .before .before in
     let w = c .before .loop in
     let k = s .args .k in
     let all : w .i ≡ treesOf k = omega (arith, w .inv .1) in
     let end = ap (λ (i : ℕ). i * (32 * k)) all ∙ width-fits k (s .pre .0) .single in
     sym (take-all (w .i * (32 * k)) (w .siblings) (omega (arith, end, w .inv .2)))
     ∙ w .inv .3
-    ∙ ap (λ (i : ℕ). concat i (λ j. nodesFound (λ l. getD (s .args .sides .now) (j * k + l) 0) (treePart k 32 j (s .args .siblings .now)) k)) all
+    ∙ ap (λ (i : ℕ). foundIn k i (s .args .sides .now) (s .args .siblings .now)) all
 
 pub all-trees-spec : {M : Type 1} → statement M
 all-trees-spec =

@@ -38,11 +38,13 @@ shared-slice-read-t16 c = search needs
 
 returns : tie.Need-returns
 unfolding tabulate
-returns c = let a = c .before .before .before .before .args in
-    let at : ℕ → ℕ → ℕ = λ i j. getD (a .sides .now) (i + a .level) 0 in
-    let first : a .level ≡ 0 * a .k + a .level = omega arith in
-    let second : a .k ≡ 1 * a .k = omega arith in
-    ap₂ (λ (i j : ℕ). getD (a .sides .now) i 0 ∷ getD (a .sides .now) (j + a .level) 0 ∷ getD (a .sides .now) (2 * a .k + a .level) 0 ∷ getD (a .sides .now) (3 * a .k + a .level) 0 ∷ []) first second
+returns c =
+    let sides = c .before .before .before .before .args .sides .now in
+    let k = c .before .before .before .before .args .k in
+    let l = c .before .before .before .before .args .level in
+    let first : l ≡ 0 * k + l = omega arith in
+    let second : k + l ≡ 1 * k + l = omega arith in
+    ap₂ (λ (i j : ℕ). getD sides i 0 ∷ getD sides j 0 ∷ getD sides (2 * k + l) 0 ∷ getD sides (3 * k + l) 0 ∷ []) first second
 
 pub lane-sides-spec : {M : Type 1} → statement M
 lane-sides-spec =

@@ -12,7 +12,8 @@ use Rattle.setup.proofs.sender.take_off.Statement.{statement}
 use Rattle.setup.proofs.sender.take_off.Tie as tie
 
 abbrev Inv-loop : tie.InvT-loop
-Inv-loop nodes₀ totals sides i₀ nodes i = (i ≤ 32) × Updated nodes₀ nodes (λ j. bitXor (getD nodes₀ j 0) (getD totals (32 * getD sides (j % 4) 0 + j) 0)) i
+Inv-loop nodes₀ totals sides i₀ nodes i =
+    (i ≤ 32) × Updated nodes₀ nodes (λ j. bitXor (getD nodes₀ j 0) (getD totals (32 * getD sides (j % 4) 0 + j) 0)) i
 
 abbrev μ-loop : tie.MeasureT-loop
 μ-loop nodes₀ totals sides i₀ nodes i = 32 - i
@@ -60,24 +61,25 @@ loop-less : tie.Need-loop-less Inv-loop μ-loop
 loop-less c = search needs
 
 loop-again : tie.Need-loop-again Inv-loop μ-loop
-loop-again c = let s = c .before .before .before .before .before .before .before .before in
+loop-again c =
+    let s = c .before .before .before .before .before .before .before .before in
     let w = c .before .before .before .before .before .loop in
     let side = getD (s .args .t3) (w .i % 4) 0 in
-    let known = c .before .before .before .before .before .before .shared-slice-known .given in (
-      omega arith,
-      updated-one _ _ _ _ _ (omega (arith, s .pre .0))
-          (ap₂ bitXor (w .inv .1 .rest (w .i) (omega arith)) (chosen 32 (s .args .totals .now) (w .i) side _ (known (w .i) .fits) (known (32 + w .i) .fits) (s .pre .2 (w .i % 4)) (c .before .before .mask .ensures)))
-          (w .inv .1),
-    )
+    let known = c .before .before .before .before .before .before .shared-slice-known .given in
+    let taken = chosen 32 (s .args .totals .now) (w .i) side _ (known (w .i) .fits) (known (32 + w .i) .fits) (s .pre .2 (w .i % 4)) (c .before .before .mask .ensures) in
+    (omega arith, updated-one _ _ _ _ _ (omega (arith, s .pre .0)) (ap₂ bitXor (w .inv .1 .rest (w .i) (omega arith)) taken) (w .inv .1))
 
 same-length : tie.Need-same-length Inv-loop μ-loop
 same-length c = search needs
 
 returns : tie.Need-returns Inv-loop μ-loop
-returns c = let s = c .before .before .before .before in
+returns c =
+    let s = c .before .before .before .before in
     let w = c .before .loop in
+    let nodes = s .args .nodes .now in
     let f : ℕ → ℕ = λ j. getD (s .args .totals .now) (32 * getD (s .args .t3) (j % 4) 0 + j) 0 in
-    updated-all (s .args .nodes .now) (w .nodes) (xorEach (s .args .nodes .now) f) (λ j. bitXor (getD (s .args .nodes .now) j 0) (f j)) (w .i) (omega (arith, s .pre .0)) (xorEach-length (s .args .nodes .now) f) (λ i h. xorEach-at (s .args .nodes .now) f i h) (w .inv .1)
+    updated-all nodes (w .nodes) (xorEach nodes f) (λ j. bitXor (getD nodes j 0) (f j)) (w .i) (omega (arith, s .pre .0))
+    (xorEach-length nodes f) (λ i h. xorEach-at nodes f i h) (w .inv .1)
 
 pub take-off-spec : {M : Type 1} → statement M
 take-off-spec =

@@ -48,25 +48,27 @@ loop-less : tie.Need-loop-less Inv-loop μ-loop
 loop-less c = omega arith
 
 loop-again : tie.Need-loop-again Inv-loop μ-loop
-loop-again c = let s = c .before .before .before .before .before .before .before .before .before in
+loop-again c =
+    let s = c .before .before .before .before .before .before .before .before .before in
     let w = c .before .before .before .before .loop in
-    let made = c .before .before .before .before .before .mask .ensures in
-    let ones : c .before .before .before .before .before .mask .result % 256 ≡ s .args .side * (2 ^ 8 - 1) = omega (arith, s .pre .3, made) in
-    let known = c .before .before .before .before .before .before .before .shared-slice-known .given in (
+    let mask = c .before .before .before .before .before .mask in
+    let ones : mask .result % 256 ≡ s .args .side * (2 ^ 8 - 1) = omega (arith, s .pre .3, mask .ensures) in
+    let known = c .before .before .before .before .before .before .before .shared-slice-known .given in
+    let taken = chosen 8 (s .args .totals .now) (w .j) (s .args .side) _ (known (w .j) .fits) (known (32 + w .j) .fits) (s .pre .3) ones in (
       omega arith,
-      updated-one _ _ _ _ _ (omega (arith, s .pre))
-          (ap (λ (x : ℕ). bitXor x (getD (s .args .pad .now) (w .j) 0)) (chosen 8 (s .args .totals .now) (w .j) (s .args .side) _ (known (w .j) .fits) (known (32 + w .j) .fits) (s .pre .3) ones))
-          (w .inv .1),
+      updated-one _ _ _ _ _ (omega (arith, s .pre)) (ap (λ (x : ℕ). bitXor x (getD (s .args .pad .now) (w .j) 0)) taken) (w .inv .1),
     )
 
 same-length : tie.Need-same-length Inv-loop μ-loop
 same-length c = omega arith
 
 returns : tie.Need-returns Inv-loop μ-loop
-returns c = let s = c .before .before .before .before .before .before in
+returns c =
+    let s = c .before .before .before .before .before .before in
     let w = c .before .loop in
     let f : ℕ → ℕ = λ i. bitXor (getD (s .args .totals .now) (32 * s .args .side + i) 0) (getD (s .args .pad .now) i 0) in
-    updated-all (s .args .out .now) (w .out) (tabulate 32 f) f (w .j) (omega (arith, s .pre)) (tabulate-length 32 f ∙ sym (s .pre .0)) (λ i h. tabulate-at 32 f i (omega (arith, s .pre))) (w .inv .1)
+    updated-all (s .args .out .now) (w .out) (tabulate 32 f) f (w .j) (omega (arith, s .pre)) (tabulate-length 32 f ∙ sym (s .pre .0))
+    (λ i h. tabulate-at 32 f i (omega (arith, s .pre))) (w .inv .1)
 
 pub unmask-spec : {M : Type 1} → statement M
 unmask-spec =

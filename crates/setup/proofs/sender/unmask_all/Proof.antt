@@ -15,7 +15,8 @@ use Rattle.setup.proofs.sender.unmask_all.Statement.{statement}
 use Rattle.setup.proofs.sender.unmask_all.Tie as tie
 
 abbrev Inv-loop : tie.InvT-loop
-Inv-loop sides pads message siblings₀ c₀ siblings c = (c ≤ 128) × (length siblings ≡ 4096) × (take (32 * c) siblings ≡ concat c (levelOf (λ i. getD sides i 0) message pads))
+Inv-loop sides pads message siblings₀ c₀ siblings c =
+    (c ≤ 128) × (length siblings ≡ 4096) × (take (32 * c) siblings ≡ concat c (levelOf (λ i. getD sides i 0) message pads))
 
 abbrev μ-loop : tie.MeasureT-loop
 μ-loop sides pads message siblings₀ c₀ siblings c = 128 - c
@@ -84,16 +85,21 @@ loop-less : tie.Need-loop-less Inv-loop μ-loop
 loop-less c = omega arith
 
 loop-again : tie.Need-loop-again Inv-loop μ-loop
-loop-again c = let s = c .before .before .before .before .before .before .before .before .before .before .before .before .before in
+loop-again c =
+    let s = c .before .before .before .before .before .before .before .before .before .before .before .before .before in
     let w = c .before .before .before .before .before .before .before .before .loop in
     let side : ℕ → ℕ = λ i. getD (s .args .sides .now) i 0 in
-    let f : ℕ → List ℕ = levelOf side (s .args .message .now) (s .args .pads .now) in
-    let back : 32 * w .c + 32 - 32 * w .c ≡ 32 = omega arith in
+    let message = s .args .message .now in
+    let pads = s .args .pads .now in
+    let a : ℕ = 32 * w .c in
+    let back : a + 32 - a ≡ 32 = omega arith in
     let back₂ : 64 * w .c + 64 - 64 * w .c ≡ 64 = omega arith in
-    let next : 32 * w .c + 32 ≡ 32 * (w .c + 1) = omega arith in
-    let one = concat-one f (w .c) in
-    let made = c .before .before .unmask .ensures ∙ level-parts side (s .args .message .now) (s .args .pads .now) (w .c) _ _ back₂ back (s .pre .0 .1 (w .c)) in
-    let grown = concat-grow f (w .c) 1 (32 * w .c) (32 * w .c + 32) (w .siblings) _ (made ∙ one) (ap length (sym one) ∙ tabulate-length 32 _ ∙ sym back) (omega arith) (omega (arith, w .inv .1)) (w .inv .2) in
+    let next : a + 32 ≡ 32 * (w .c + 1) = omega arith in
+    let one = concat-one (levelOf side message pads) (w .c) in
+    let size = ap length (sym one) ∙ tabulate-length 32 _ ∙ sym back in
+    let made = c .before .before .unmask .ensures ∙ level-parts side message pads (w .c) _ _ back₂ back (s .pre .0 .1 (w .c)) in
+    let fits : a + 32 ≤ length (w .siblings) = omega (arith, w .inv .1) in
+    let grown = concat-grow (levelOf side message pads) (w .c) 1 a (a + 32) (w .siblings) _ (made ∙ one) size (omega arith) fits (w .inv .2) in
     (omega arith, grown .0 ∙ w .inv .1, rw (sym next) (grown .1))
 
 same-length : tie.Need-same-length Inv-loop μ-loop
