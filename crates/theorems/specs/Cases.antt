@@ -1,7 +1,7 @@
 -- The marked cases of paper 01, 'Edges', as one table about the defining rules. Assumes nothing.
 use mathlib.Core.Bool.{Bool, true, false}
 use mathlib.Core.List.{List, [], _∷_, _++_}
-use Prim.Native.Nat.{ℕ, _-_}
+use Prim.Native.Nat.{ℕ}
 use lib.Dec.{eqb}
 use lib.ListN.{getD}
 use Rattle.words.specs.Bytes.{tabulate}
@@ -11,6 +11,7 @@ use Rattle.gf64.specs.Field.{fold, foldBytes}
 use Rattle.gf64.specs.Check.{columnSide, choiceSide}
 use Rattle.tree.specs.Path.{pathBit, siblingNumber}
 use Rattle.tree.specs.Columns.{uAt, receiverAt, senderAt}
+use Rattle.setup.specs.Setup.{sideOf}
 
 pub data Case : Type 0 where
   -- a key and words: their fold
@@ -37,7 +38,7 @@ gives (rowed k bits d) =
     ∷ ofBits k (receiverAt k [] (λ y leaf. getD bits y 0))
     ∷ ofBits k (senderAt k [] d (λ y leaf. getD bits y 0))
     ∷ []
-gives (walked k d) = tabulate k (pathBit k d) ++ (tabulate k (siblingNumber k d) ++ tabulate k (λ l. 1 - pathBit k d l))
+gives (walked k d) = tabulate k (pathBit k d) ++ (tabulate k (siblingNumber k d) ++ tabulate k (sideOf k d))
 
 pub record Row : Type 0 where
   -- the number after the M
