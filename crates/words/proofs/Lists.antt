@@ -333,6 +333,28 @@ module _ (l : List ℕ) (a n : ℕ) (f : ℕ → ℕ) (fits : a + n ≤ length l
   unfolding xorPart
   xorPart-after = mid-after l (xorEach (take n (drop a l)) f) a n fits added-length
 
+-- additions in progress: the next n elements at once
+pub added-part : (l m : List ℕ) (f g : ℕ → ℕ) (a n : ℕ) → a + n ≤ length l → ((j : ℕ) → j < n → g j ≡ f (a + j))
+    → Added l m f a → Added l (xorPart m a n g) f (a + n)
+added-part l m f g a n fits same u =
+    record {
+      len = xorPart-length m a n g room ∙ u .len;
+      done = λ k lt lt′. here k (decLt k a) lt lt′;
+      rest = λ k le. xorPart-after m a n g room k le ∙ u .rest k (omega arith);
+    }
+  where
+    room : a + n ≤ length m
+    room = omega (arith, u .len)
+
+    here : (k : ℕ) → Dec (k < a) → k < a + n → k < length l → getD (xorPart m a n g) k 0 ≡ bitXor (getD l k 0) (f k)
+    here k (yes h) lt lt′ = xorPart-before m a n g room k h ∙ u .done k h lt′
+    here k (no h) lt lt′ =
+        let e : k ≡ a + (k - a) = omega arith in
+        ap (λ (j : ℕ). getD (xorPart m a n g) j 0) e
+        ∙ xorPart-in m a n g room (k - a) (omega arith)
+        ∙ ap₂ bitXor (u .rest (a + (k - a)) (omega arith)) (same (k - a) (omega arith))
+        ∙ ap (λ (j : ℕ). bitXor (getD l j 0) (f j)) (sym e)
+
 -- ---- parts that were lent and come back
 
 -- with f added

@@ -1,11 +1,11 @@
 -- Laws of sums (⊕) over the numbers below n, and of numbers made of their bits. Assumes nothing.
 use mathlib.Core.Path.{_≡_, refl, sym, ap, ap₂, _∙_}
 use Prim.Native.Nat.{ℕ, zero, suc, _+_, _-_, _*_, _/_, _%_, _^_, _<_}
-use native.Mathlib.Nat.{not-suc-le-zero, add-comm, mul-assoc, pow-suc, pow-succ', mod-eq-of-lt, add-mul-div-right, add-mul-mod-self-right}
+use native.Mathlib.Nat.{not-suc-le-zero, add-comm, one-mul, mul-assoc, zero-div, div-eq-of-lt, pow-suc, pow-succ', mod-eq-of-lt, add-mul-div-right, add-mul-mod-self-right}
 use native.Mathlib.Omega.{arith}
-use native.Mathlib.Decide.{ℕ-discrete}
+use native.Mathlib.Decide.{decLt, ℕ-discrete}
 use lib.Bits.{bitXor}
-use lib.Pow.{pow-pos, pow-add, high}
+use lib.Pow.{pow-pos, pow-lt, pow-add, shl-shr, high}
 use Rattle.words.specs.Bits.{bitOf, ofBits}
 use Rattle.words.specs.Xor.{sumTo}
 use Rattle.words.proofs.Xor.{digit, xor-swap}
@@ -59,3 +59,22 @@ ofBits-bit (suc k) f h b lt = here (ℕ-discrete b k) (ofBits-bit k f h b)
         ∙ mod-eq-of-lt (h k)
         ∙ ap f (sym e)
     here (no ne) before = bit-below (ofBits k f) (f k) k b (omega arith) ∙ before (omega arith)
+
+-- ---- the bits of 0 and of a power of two
+
+pub zero-bit : (b : ℕ) → bitOf 0 b ≡ 0
+zero-bit b = ap (λ (n : ℕ). n % 2) (zero-div (2 ^ b))
+
+pub power-bit : (r : ℕ) → bitOf (2 ^ r) r ≡ 1
+power-bit r = ap (λ (n : ℕ). n / 2 ^ r % 2) (sym (one-mul (2 ^ r))) ∙ ap (λ (n : ℕ). n % 2) (shl-shr 1 r)
+
+pub power-other : (r b : ℕ) → (b ≡ r → ⊥) → bitOf (2 ^ r) b ≡ 0
+power-other r b ne = here (decLt b r)
+  where
+    here : Dec (b < r) → bitOf (2 ^ r) b ≡ 0
+    here (yes h) =
+        let e : r ≡ suc (r - b - 1) + b = omega arith in
+        ap (λ (n : ℕ). n / 2 ^ b % 2) (ap (λ (n : ℕ). 2 ^ n) e ∙ pow-add 2 (suc (r - b - 1)) b)
+        ∙ ap (λ (n : ℕ). n % 2) (shl-shr (2 ^ suc (r - b - 1)) b)
+        ∙ omega (arith, pow-suc 2 (r - b - 1))
+    here (no h) = ap (λ (n : ℕ). n % 2) (div-eq-of-lt (pow-lt {i = r} {j = b} (omega arith)))
