@@ -2,13 +2,14 @@
 -- the siblings. Assumes nothing.
 use mathlib.Core.Path.{_≡_, sym, ap, _∙_}
 use mathlib.Core.List.{List}
-use Prim.Native.Nat.{ℕ, _-_, _*_, _%_, _^_, _<_}
-use native.Mathlib.Nat.{zero-mul, one-mul, zero-div}
+use Prim.Native.Nat.{ℕ, _-_, _*_, _^_, _<_}
+use native.Mathlib.Nat.{zero-mul, one-mul}
 use native.Mathlib.Decide.{ℕ-discrete}
 use lib.Bits.{bitXor, xor-self}
 use Rattle.words.specs.Bits.{bitOf}
 use Rattle.words.specs.Xor.{_⊕_, sumTo}
 use Rattle.words.proofs.Xor.{bit-lt, bit-xor, bits-scale}
+use Rattle.words.proofs.Sums.{zero-bit}
 use Rattle.tree.specs.Tree.{sumBelow}
 use Rattle.tree.specs.Path.{siblingNode, siblingNumber}
 use Rattle.tree.specs.Columns.{uAt, receiverAt, otherThan, senderAt}
@@ -21,7 +22,7 @@ other-bit d y b x = here (ℕ-discrete y d)
   where
     none : bitOf (d ⊕ d) b * x ≡ 0
     none =
-        ap (λ (n : ℕ). bitOf n b * x) (xor-self d) ∙ ap (λ (n : ℕ). n % 2 * x) (zero-div (2 ^ b)) ∙ zero-mul x
+        ap (λ (n : ℕ). bitOf n b * x) (xor-self d) ∙ ap (λ (p : ℕ). p * x) (zero-bit b) ∙ zero-mul x
 
     here : Dec (y ≡ d) → otherThan d y * (bitOf (y ⊕ d) b * x) ≡ bitOf (y ⊕ d) b * x
     here (yes e) =

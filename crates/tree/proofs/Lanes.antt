@@ -36,9 +36,10 @@ children-byte m y x h =
     ∙ bytesOfWords-at (blockWords m 0 (nonceOf 0 0)) (x / 4) (x % 4) (omega (arith, blockWords-length m 0 (nonceOf 0 0))) (omega arith)
 
 -- place j of four nodes' blocks
-blocks-word : (nodes : List ℕ) (y j : ℕ) → j < 64 → getD (blocksOf nodes 0 (nonceOf 0 0)) j 0 ≡ childWord (j / 4) y (keyIn (j % 4) nodes)
+pub blocks-word : (nodes : List ℕ) (counter : ℕ) (nonce : List ℕ) (j : ℕ) → j < 64
+    → getD (blocksOf nodes counter nonce) j 0 ≡ getD (blockWords (keyIn (j % 4) nodes) counter nonce) (j / 4) 0
 unfolding blocksOf
-blocks-word nodes y j h = laned-at 16 (λ l. blockWords (keyIn l nodes) 0 (nonceOf 0 0)) j h
+blocks-word nodes counter nonce j h = laned-at 16 (λ l. blockWords (keyIn l nodes) counter nonce) j h
 
 -- each half of the blocks holds the children of one side
 pub child-in : (nodes c r : List ℕ) (s : ℕ) → s < 2 → c ≡ blocksOf nodes 0 (nonceOf 0 0) → r ≡ part (32 * s) 32 c
@@ -58,7 +59,7 @@ child-in nodes c r s hs made half l hl =
         (ap (λ (z : List ℕ). getD z (4 * (x / 4) + l) 0) half
         ∙ part-at (32 * s) 32 c (4 * (x / 4) + l) (omega arith)
         ∙ ap (λ (z : List ℕ). getD z (32 * s + (4 * (x / 4) + l)) 0) made
-        ∙ blocks-word nodes 0 (32 * s + (4 * (x / 4) + l)) (omega arith)
+        ∙ blocks-word nodes 0 (nonceOf 0 0) (32 * s + (4 * (x / 4) + l)) (omega arith)
         ∙ ap₂ (λ (w i : ℕ). childWord w 0 (keyIn i nodes)) word here)
         ∙ ap (λ (b : ℕ). getD (bytes 4 (childWord ((32 * s + x) / 4) 0 (keyIn l nodes))) b 0) byte
         ∙ sym (children-byte (keyIn l nodes) 0 (32 * s + x) (omega arith))
@@ -71,7 +72,7 @@ total-here : (nodes : List ℕ) (i : ℕ) → i < 64 → totalWord nodes i ≡ g
 unfolding sumBelow
 total-here nodes i h =
     ap₂ (λ (q r : ℕ). sumBelow q (keyIn (i % 4) nodes) 0 (childWord (r / 4))) (div-eq-of-lt h) (mod-eq-of-lt h)
-    ∙ sym (blocks-word nodes 0 i h)
+    ∙ sym (blocks-word nodes 0 (nonceOf 0 0) i h)
 
 module _ (nodes a b : List ℕ)
     (left : (l : ℕ) → l < 4 → keyIn l a ≡ childOf 0 (keyIn l nodes)) (right : (l : ℕ) → l < 4 → keyIn l b ≡ childOf 1 (keyIn l nodes)) where

@@ -3,3 +3,4 @@ pub mod Sums
 pub mod Path
 pub mod Columns
 pub mod Lanes
+pub mod Telescope

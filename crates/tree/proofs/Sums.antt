@@ -2,12 +2,14 @@
 use mathlib.Core.Path.{_≡_, refl, sym, ap, ap₂, _∙_}
 use mathlib.Core.List.{List}
 use Prim.Native.Nat.{ℕ, zero, suc, _+_, _*_, _/_, _^_, _<_}
-use native.Mathlib.Nat.{pow-suc, div-div-eq-div-mul, div-one}
+use native.Mathlib.Nat.{zero-mul, one-mul, mul-comm, mul-assoc, add-mul, mod-lt, pow-suc, pow-succ', div-add-mod', div-div-eq-div-mul, div-one}
 use native.Mathlib.Omega.{arith}
-use lib.Bits.{bitXor}
+use lib.Bits.{bitXor, xor-comm, xor-shifted}
 use lib.ListN.{length, getD, drop, length-drop}
+use lib.Pow.{pow-pos}
 use lib.Seq.{getD-take, getD-drop, length-take-le}
-use Rattle.words.proofs.Xor.{xor-swap, scale-xor}
+use Rattle.words.specs.Bits.{bitOf}
+use Rattle.words.proofs.Xor.{bit-lt, bit-xor, bits-scale, xor-swap, scale-xor}
 use Rattle.chacha20.proofs.Laws.{blockOf-length}
 use Rattle.chacha20.specs.Nonce.{nonceOf}
 use Rattle.tree.specs.Tree.{childrenOf, childOf, sumBelow}
@@ -71,3 +73,43 @@ unfolding sumBelow
 sum-number zero n y w g = refl
 sum-number (suc l) n y w g =
     ap₂ bitXor (sum-number l (childOf 0 n) (2 * y) (2 * w) g) (sum-number l (childOf 1 n) (2 * y + 1) (2 * w + 1) g)
+
+-- ---- sums and the bits of the nodes' numbers
+
+-- below the node numbered y the numbers are those below the node numbered 0, from y * 2 ^ l on
+pub sum-shift : (l : ℕ) (n : List ℕ) (y : ℕ) (g : ℕ → List ℕ → ℕ) → sumBelow l n y g ≡ sumBelow l n 0 (λ z m. g (y * 2 ^ l + z) m)
+unfolding sumBelow
+sum-shift zero n y g = let e : y ≡ y * 2 ^ 0 + 0 = omega arith in ap (λ (z : ℕ). g z n) e
+sum-shift (suc l) n y g =
+    ap₂ bitXor
+    (sum-shift l (childOf 0 n) (2 * y) g
+    ∙ sum-same l (childOf 0 n) 0 (λ z m. g (2 * y * 2 ^ l + z) m) (λ z m. g (y * 2 ^ suc l + z) m)
+    (λ z m q. ap (λ (w : ℕ). g (w + z) m) twice))
+    (sum-shift l (childOf 1 n) (2 * y + 1) g
+    ∙ sum-same l (childOf 1 n) 0 (λ z m. g ((2 * y + 1) * 2 ^ l + z) m) (λ z m. g (y * 2 ^ suc l + (1 * 2 ^ l + z)) m)
+    (λ z m q. ap (λ (w : ℕ). g w m) (next z))
+    ∙ sym (sum-shift l (childOf 1 n) 1 (λ z m. g (y * 2 ^ suc l + z) m)))
+  where
+    twice : 2 * y * 2 ^ l ≡ y * 2 ^ suc l
+    twice =
+        ap (λ (x : ℕ). x * 2 ^ l) (mul-comm 2 y)
+        ∙ mul-assoc y 2 (2 ^ l)
+        ∙ ap (λ (x : ℕ). y * x) (sym (pow-succ' 2 l))
+
+    next : (z : ℕ) → (2 * y + 1) * 2 ^ l + z ≡ y * 2 ^ suc l + (1 * 2 ^ l + z)
+    next z = omega (arith, add-mul (2 * y) 1 (2 ^ l), twice)
+
+-- below the node numbered 1, the nodes whose number has bit b: as below the one numbered 0, and if b is l all nodes once more
+pub sum-bit : (b l : ℕ) (n : List ℕ) (g : List ℕ → ℕ) → sumBelow l n 1 (λ z m. bitOf z b * g m)
+    ≡ bitXor (sumBelow l n 0 (λ z m. bitOf z b * g m)) (bitOf (2 ^ l) b * sumBelow l n 0 (λ z m. g m))
+sum-bit b l n g =
+    sum-shift l n 1 (λ z m. bitOf z b * g m)
+    ∙ sum-same l n 0 (λ z m. bitOf (1 * 2 ^ l + z) b * g m) (λ z m. bitXor (bitOf z b * g m) (bitOf (2 ^ l) b * g m))
+    (λ z m q.
+    let small : z < 2 ^ l =
+    omega (arith, div-add-mod' z (2 ^ l), ap (λ (x : ℕ). x * 2 ^ l) q, zero-mul (2 ^ l), mod-lt z (pow-pos l)) in
+    ap (λ (x : ℕ). bitOf x b * g m) (sym (xor-shifted 1 l z small) ∙ xor-comm (1 * 2 ^ l) z ∙ ap (bitXor z) (one-mul (2 ^ l)))
+    ∙ ap (λ (p : ℕ). p * g m) (bit-xor z (2 ^ l) b)
+    ∙ bits-scale (g m) (bitOf z b) (bitOf (2 ^ l) b) (bit-lt z b) (bit-lt (2 ^ l) b))
+    ∙ sum-xor l n 0 (λ z m. bitOf z b * g m) (λ z m. bitOf (2 ^ l) b * g m)
+    ∙ ap (bitXor (sumBelow l n 0 (λ z m. bitOf z b * g m))) (sum-times l n 0 (bitOf (2 ^ l) b) (λ z m. g m) (bit-lt (2 ^ l) b))

@@ -1,7 +1,8 @@
 -- What a walk of four trees side by side adds. Word w of lane l stands at 4w + l. Assumes nothing.
-use Prim.Native.Nat.{ℕ, _/_, _%_}
+use Prim.Native.Nat.{ℕ, _*_, _/_, _%_}
 use mathlib.Core.List.{List}
 use lib.ListN.{getD}
+use Rattle.words.specs.Bits.{bitOf}
 use Rattle.chacha20.specs.ChaCha.{blockWords}
 use Rattle.chacha20.specs.Nonce.{nonceOf}
 use Rattle.chacha20.specs.Lanes.{keyIn}
@@ -18,3 +19,16 @@ totalWord nodes i = sumBelow (i / 64) (keyIn (i % 4) nodes) 0 (childWord (i % 64
 -- the totals of one node, 64 bytes a level: side 0's, then side 1's
 abbrev pub totalByte : List ℕ → ℕ → ℕ
 totalByte node x = sumBelow (x / 64) node 0 (λ y m. getD (childrenOf m) (x % 64) 0)
+
+-- word j of a leaf's stream
+abbrev pub streamWord : ℕ → ℕ → List ℕ → ℕ
+streamWord batch j leaf = getD (blockWords leaf (j / 16) (nonceOf 1 batch)) (j % 16) 0
+
+-- the sums of the streams of all leaves so many levels below four nodes: at place i word i / 4 of the sum below the node in lane i % 4
+abbrev pub uWord : ℕ → ℕ → List ℕ → ℕ → ℕ
+uWord batch levels nodes i = sumBelow levels (keyIn (i % 4) nodes) 0 (λ y leaf. streamWord batch (i / 4) leaf)
+
+-- their columns one after the other, len words each: column b sums the leaves whose number has bit b
+abbrev pub columnWord : ℕ → ℕ → ℕ → List ℕ → ℕ → ℕ
+columnWord batch len levels nodes i =
+    sumBelow levels (keyIn (i % len % 4) nodes) 0 (λ y leaf. bitOf y (i / len) * streamWord batch (i % len / 4) leaf)

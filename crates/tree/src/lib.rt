@@ -1,10 +1,10 @@
 // What a walk of the trees makes and adds up. Four trees go side by side: word w of lane l stands at 4w + l.
 ghost use mathlib.Core.Path.{_≡_};
-ghost use Prim.Native.Nat.{_+_, _*_, _≤_};
-ghost use lib.ListN.{length};
+ghost use Prim.Native.Nat.{_+_, _*_, _%_, _≤_, _<_};
+ghost use lib.ListN.{length, getD};
 ghost use Rattle.words.specs.Bytes.{part};
-ghost use Rattle.words.specs.Xor.{xorEach};
-ghost use Rattle.tree.specs.Lanes.{totalWord};
+ghost use Rattle.words.specs.Xor.{xorEach, xorPart};
+ghost use Rattle.tree.specs.Lanes.{totalWord, uWord, columnWord};
 
 // The four nodes at a place of s: in four blocks the left children stand at 0, the right ones at 32.
 pub fn nodes_at(s: &[u32], at: usize) -> [u32; 32]
@@ -30,5 +30,51 @@ pub fn totals(nodes: &[u32; 32], levels: usize, t: &mut [u32])
         words::xor_words(&mut t[0..64], &c);
         totals(&nodes_at(&c, 0), levels - 1, &mut t[64..]);
         totals(&nodes_at(&c, 32), levels - 1, &mut t[64..]);
+    }
+}
+
+// Adds the streams of four leaves to u.
+fn add_stream(leaves: &[u32; 32], batch: u32, u: &mut [u32])
+    requires { ⌜ (length (now u) % 64 ≡ 0) × (length (now u) ≤ 512) ⌝ }
+    ensures { λ _. ⌜ now (u .exit) ≡ xorEach (now (u .entry)) (uWord batch 0 (now (leaves .entry))) ⌝ }
+{
+    let nonce = chacha20::nonce(1, batch);
+    let mut counter = 0u32;
+    let mut at = 0;
+    while at < u.len() {
+        let c = chacha20::four::block(leaves, counter, &nonce);
+        let end = at + 64;
+        words::xor_words(&mut u[at..end], &c);
+        counter += 1;
+        at = end;
+    }
+}
+
+// Adds u to column r of v.
+fn add_column(v: &mut [u32], r: usize, u: &[u32])
+    requires { ⌜ r * length (now u) + length (now u) ≤ length (now v) ⌝ }
+    ensures { λ _. ⌜ now (v .exit) ≡ xorPart (now (v .entry)) (r * length (now (u .entry))) (length (now (u .entry))) (λ i. getD (now (u .entry)) i 0) ⌝ }
+{
+    let at = r * u.len();
+    let end = at + u.len();
+    words::xor_words(&mut v[at..end], u);
+}
+
+// Adds the streams of all leaves some levels below four nodes to u, and to column b of v those of the leaves whose number has bit b.
+// The leaves on the right have the bit of their level: u is added to its column before they come and after them.
+pub fn walk(nodes: &[u32; 32], levels: usize, batch: u32, u: &mut [u32], v: &mut [u32])
+    requires { ⌜ levels * length (now u) ≤ length (now v) ⌝ }
+    requires { ⌜ (length (now u) % 64 ≡ 0) × (length (now u) ≤ 512) × (0 < length (now u)) ⌝ }
+    ensures { λ _. ⌜ now (u .exit) ≡ xorEach (now (u .entry)) (uWord batch levels (now (nodes .entry))) ⌝ }
+    ensures { λ _. ⌜ now (v .exit) ≡ xorEach (now (v .entry)) (columnWord batch (length (now (u .entry))) levels (now (nodes .entry))) ⌝ }
+{
+    if levels == 0 {
+        add_stream(nodes, batch, u);
+    } else {
+        let c = chacha20::four::block(nodes, 0, &chacha20::nonce(0, 0));
+        walk(&nodes_at(&c, 0), levels - 1, batch, u, v);
+        add_column(v, levels - 1, u);
+        walk(&nodes_at(&c, 32), levels - 1, batch, u, v);
+        add_column(v, levels - 1, u);
     }
 }
