@@ -1,14 +1,14 @@
 -- Laws of states and lanes. Assumes nothing.
 use mathlib.Core.Path.{_≡_, refl, sym, ap, ap₂, _∙_}
 use mathlib.Core.List.{List, [], _∷_}
-use Prim.Native.Nat.{ℕ, zero, suc, _+_, _*_, _^_, _<_}
+use Prim.Native.Nat.{ℕ, zero, suc, _+_, _*_, _/_, _%_, _^_, _<_}
 use native.Mathlib.Omega.{arith}
 use lib.ListN.{length, getD, length-set}
-use Rattle.words.specs.Bytes.{word32}
+use Rattle.words.specs.Bytes.{word32, bytes, bytesOfWords}
 use Rattle.words.specs.Lanes.{readLane, lane}
 use Rattle.words.specs.Word32.{add32}
 use Rattle.words.proofs.Lanes.{lane-at, lane-laned}
-use Rattle.words.proofs.Numbers.{word-back, bytesOfWords-length}
+use Rattle.words.proofs.Numbers.{word-back, bytesOfWords-length, bytesOfWords-at}
 use Rattle.chacha20.specs.ChaCha.{putQuad, quarterAt, columnRound, diagonalRound, doubleRound, doubleRounds, addWords, startOf, blockWords, blockOf}
 use Rattle.chacha20.specs.Lanes.{keyIn, blocksOf}
 
@@ -90,6 +90,16 @@ pub blockOf-length : (key : List ℕ) (counter : ℕ) (nonce : List ℕ) → len
 unfolding blockOf
 blockOf-length key counter nonce =
     bytesOfWords-length (blockWords key counter nonce) ∙ ap (λ (n : ℕ). 4 * n) (blockWords-length key counter nonce)
+
+-- byte x of a block is byte x % 4 of its word x / 4
+pub block-byte : (key : List ℕ) (counter : ℕ) (nonce : List ℕ) (x : ℕ) → x < 64
+    → getD (blockOf key counter nonce) x 0 ≡ getD (bytes 4 (getD (blockWords key counter nonce) (x / 4) 0)) (x % 4) 0
+unfolding blockOf
+block-byte key counter nonce x h =
+    let back : x ≡ 4 * (x / 4) + x % 4 = omega arith in
+    let ws : List ℕ = blockWords key counter nonce in
+    ap (λ (i : ℕ). getD (bytesOfWords ws) i 0) back
+    ∙ bytesOfWords-at ws (x / 4) (x % 4) (omega (arith, blockWords-length key counter nonce)) (omega arith)
 
 -- each lane of four blocks is the block of its key
 pub blocks-lane : (keys : List ℕ) (counter : ℕ) (nonce : List ℕ) (l : ℕ) → l < 4

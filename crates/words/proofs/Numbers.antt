@@ -2,7 +2,7 @@
 use mathlib.Core.Path.{_≡_, refl, sym, ap, ap₂, _∙_}
 use mathlib.Core.List.{List, [], _∷_}
 use Prim.Native.Nat.{ℕ, zero, suc, _+_, _-_, _*_, _/_, _%_, _^_, _<_, _≤_}
-use native.Mathlib.Nat.{zero-div, mod-one, mod-eq-of-lt, zero-lt-suc, pow-suc, not-suc-le-zero, le-of-suc-le-suc}
+use native.Mathlib.Nat.{zero-mul, one-mul, zero-div, mod-one, mod-eq-of-lt, zero-lt-suc, pow-suc, not-suc-le-zero, le-of-suc-le-suc}
 use native.Mathlib.Decide.{decLt}
 use native.Mathlib.Omega.{arith}
 use lib.Arith.{mod-mul}
@@ -12,6 +12,7 @@ use Rattle.words.proofs.Lists.{tabulate-length, tabulate-at, put-before
 use Rattle.words.specs.Xor.{xorList}
 use Rattle.words.specs.Bits.{bitOf, bitAt}
 use Rattle.words.proofs.Below.{below}
+use Rattle.words.proofs.Xor.{digit}
 use lib.Bits.{bitXor, xor-block, xor-mod, xor-shr}
 use lib.Pow.{field, mod-mod-pow, shr-shr}
 use lib.Seq.{ext-getD, getD-take, getD-drop}
@@ -49,6 +50,18 @@ pub bytes-xor : (n x y b : ℕ) → getD (bytes n (bitXor x y)) b 0 ≡ bitXor (
 bytes-xor zero x y b = refl
 bytes-xor (suc n) x y zero = xor-mod x y 8
 bytes-xor (suc n) x y (suc b) = ap (λ (z : ℕ). getD (bytes n z) b 0) (xor-shr x y 8) ∙ bytes-xor n (x / 256) (y / 256) b
+
+pub bytes-zero : (n b : ℕ) → getD (bytes n 0) b 0 ≡ 0
+bytes-zero zero b = refl
+bytes-zero (suc n) zero = refl
+bytes-zero (suc n) (suc b) = bytes-zero n b
+
+-- and each byte of a bit times a number is the bit times the byte
+pub bytes-scale : (n d x b : ℕ) → d < 2 → getD (bytes n (d * x)) b 0 ≡ d * getD (bytes n x) b 0
+bytes-scale n d x b h =
+    digit (λ (d : ℕ). getD (bytes n (d * x)) b 0 ≡ d * getD (bytes n x) b 0)
+    (ap (λ (y : ℕ). getD (bytes n y) b 0) (zero-mul x) ∙ bytes-zero n b ∙ sym (zero-mul (getD (bytes n x) b 0)))
+    (ap (λ (y : ℕ). getD (bytes n y) b 0) (one-mul x) ∙ sym (one-mul (getD (bytes n x) b 0))) d h
 
 pub number-lt : (s : List ℕ) → Bytes s → number s < 256 ^ length s
 number-lt [] h = zero-lt-suc 0
