@@ -14,26 +14,22 @@ use Rattle.words.specs.Xor.{xorEach, xorPart}
 use Rattle.words.proofs.Xor.{xor-assoc}
 use Rattle.words.proofs.Lists.{xorEach-is, xorPart-length, xorPart-before, xorPart-in, xorPart-after}
 use Rattle.words.proofs.Concat.{part-at}
-use Rattle.words.proofs.Numbers.{bytesOfWords-at, bytes-xor}
 use Rattle.words.proofs.Lanes.{laned-at}
 use Rattle.words.proofs.LaneBytes.{laneBytes-length, laneBytes-at}
-use Rattle.chacha20.specs.ChaCha.{blockWords, blockOf}
+use Rattle.chacha20.specs.ChaCha.{blockWords}
 use Rattle.chacha20.specs.Nonce.{nonceOf}
 use Rattle.chacha20.specs.Lanes.{keyIn, blocksOf}
-use Rattle.chacha20.proofs.Laws.{blockWords-length}
+use Rattle.chacha20.proofs.Laws.{block-byte}
 use Rattle.tree.specs.Tree.{childrenOf, childOf, sumBelow}
 use Rattle.tree.specs.Lanes.{childWord, totalWord, totalByte}
-use Rattle.tree.proofs.Sums.{child-length, child-byte, sum-same, sum-number, sum-map}
+use Rattle.tree.proofs.Sums.{child-length, child-byte, sum-number, sum-byte}
 
 -- ---- the children of four nodes
 
 -- byte x of a node's children is byte x % 4 of their word x / 4
 children-byte : (m : List ℕ) (y x : ℕ) → x < 64 → getD (childrenOf m) x 0 ≡ getD (bytes 4 (childWord (x / 4) y m)) (x % 4) 0
-unfolding childrenOf blockOf
-children-byte m y x h =
-    let back : x ≡ 4 * (x / 4) + x % 4 = omega arith in
-    ap (λ (i : ℕ). getD (childrenOf m) i 0) back
-    ∙ bytesOfWords-at (blockWords m 0 (nonceOf 0 0)) (x / 4) (x % 4) (omega (arith, blockWords-length m 0 (nonceOf 0 0))) (omega arith)
+unfolding childrenOf
+children-byte m y x h = block-byte m 0 (nonceOf 0 0) x h
 
 -- place j of four nodes' blocks
 pub blocks-word : (nodes : List ℕ) (counter : ℕ) (nonce : List ℕ) (j : ℕ) → j < 64
@@ -143,10 +139,5 @@ total-lane nodes l x hl =
     let byte : x % 4 ≡ x % 64 % 4 = omega arith in
     ap₂ (λ (q i : ℕ). getD (bytes 4 (sumBelow q (keyIn i nodes) 0 (childWord ((4 * (x / 4) + l) % 64 / 4)))) (x % 4) 0) level here
     ∙ ap₂ (λ (w b : ℕ). getD (bytes 4 (sumBelow (x / 64) (keyIn l nodes) 0 (childWord w))) b 0) word byte
-    ∙ sym
-    (sum-map (λ z. getD (bytes 4 z) (x % 64 % 4) 0) (λ p q. bytes-xor 4 p q (x % 64 % 4)) (x / 64) (keyIn l nodes) 0 (childWord (x % 64 / 4)))
-    ∙ bytes-sum (x / 64) (keyIn l nodes)
-  where
-    bytes-sum : (q : ℕ) (n : List ℕ) → sumBelow q n 0 (λ y m. getD (bytes 4 (childWord (x % 64 / 4) y m)) (x % 64 % 4) 0)
-        ≡ sumBelow q n 0 (λ y m. getD (childrenOf m) (x % 64) 0)
-    bytes-sum q n = sum-same q n 0 _ (λ y m. getD (childrenOf m) (x % 64) 0) (λ y m e. sym (children-byte m y (x % 64) (omega arith)))
+    ∙ sum-byte (x / 64) (keyIn l nodes) (childWord (x % 64 / 4)) (λ y m. getD (childrenOf m) (x % 64) 0) (x % 64 % 4)
+    (λ y m. sym (children-byte m y (x % 64) (omega arith)))

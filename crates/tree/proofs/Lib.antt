@@ -4,3 +4,4 @@ pub mod Path
 pub mod Columns
 pub mod Lanes
 pub mod Telescope
+pub mod Streams

@@ -8,8 +8,10 @@ use lib.Bits.{bitXor, xor-comm, xor-shifted}
 use lib.ListN.{length, getD, drop, length-drop}
 use lib.Pow.{pow-pos}
 use lib.Seq.{getD-take, getD-drop, length-take-le}
+use Rattle.words.specs.Bytes.{bytes}
 use Rattle.words.specs.Bits.{bitOf}
 use Rattle.words.proofs.Xor.{bit-lt, bit-xor, bits-scale, xor-swap, scale-xor}
+use Rattle.words.proofs.Numbers.{bytes-xor}
 use Rattle.chacha20.proofs.Laws.{blockOf-length}
 use Rattle.chacha20.specs.Nonce.{nonceOf}
 use Rattle.tree.specs.Tree.{childrenOf, childOf, sumBelow}
@@ -62,6 +64,13 @@ sum-map h e zero n y g = refl
 sum-map h e (suc l) n y g =
     ap₂ bitXor (sum-map h e l (childOf 0 n) (2 * y) g) (sum-map h e l (childOf 1 n) (2 * y + 1) g)
     ∙ sym (e (sumBelow l (childOf 0 n) (2 * y) g) (sumBelow l (childOf 1 n) (2 * y + 1) g))
+
+-- a byte of a sum of words
+pub sum-byte : (l : ℕ) (n : List ℕ) (g f : ℕ → List ℕ → ℕ) (k : ℕ) → ((y : ℕ) (m : List ℕ) → getD (bytes 4 (g y m)) k 0 ≡ f y m)
+    → getD (bytes 4 (sumBelow l n 0 g)) k 0 ≡ sumBelow l n 0 f
+sum-byte l n g f k e =
+    sym (sum-map (λ w. getD (bytes 4 w) k 0) (λ a b. bytes-xor 4 a b k) l n 0 g)
+    ∙ sum-same l n 0 (λ y m. getD (bytes 4 (g y m)) k 0) f (λ y m q. e y m)
 
 -- a bit times a sum
 pub sum-times : (l : ℕ) (n : List ℕ) (y p : ℕ) (g : ℕ → List ℕ → ℕ) → p < 2 → sumBelow l n y (λ z m. p * g z m) ≡ p * sumBelow l n y g

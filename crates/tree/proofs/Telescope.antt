@@ -1,7 +1,7 @@
 -- What a walk of four trees adds to the sums of the leaves' streams and to their columns. Assumes nothing.
 use mathlib.Core.Path.{_≡_, refl, sym, ap, ap₂, _∙_, subst}
 use mathlib.Core.List.{List}
-use Prim.Native.Nat.{ℕ, zero, suc, _+_, _-_, _*_, _/_, _%_, _^_, _≤_, _<_}
+use Prim.Native.Nat.{ℕ, suc, _+_, _-_, _*_, _/_, _%_, _^_, _≤_, _<_}
 use native.Mathlib.Nat.{zero-mul, one-mul, suc-mul, mod-lt, div-add-mod'}
 use native.Mathlib.Omega.{arith}
 use native.Mathlib.Decide.{decLt}
@@ -12,8 +12,7 @@ use Rattle.words.specs.Bits.{bitOf}
 use Rattle.words.specs.Xor.{xorEach, xorPart}
 use Rattle.words.proofs.Xor.{xor-assoc, xor-around}
 use Rattle.words.proofs.Sums.{zero-bit, power-bit, power-other}
-use Rattle.words.proofs.Lists.{xorEach-length, xorEach-at, xorEach-is, xorEach-cong, xorEach-zero, xorEach-twice}
-use Rattle.words.proofs.Lists.{xorPart-length, xorPart-before, xorPart-in, xorPart-after}
+use Rattle.words.proofs.Lists.{xorEach-length, xorEach-at, xorEach-is, xorEach-cong, xorEach-zero, xorEach-twice, xorPart-length, xorPart-before, xorPart-in, xorPart-after}
 use Rattle.chacha20.specs.ChaCha.{blockWords}
 use Rattle.chacha20.specs.Nonce.{nonceOf}
 use Rattle.chacha20.specs.Lanes.{keyIn, blocksOf}
