@@ -61,7 +61,7 @@ fn add_column(v: &mut [u32], r: usize, u: &[u32])
 }
 
 // Adds the streams of all leaves some levels below four nodes to u, and to column b of v those of the leaves whose number has bit b.
-// The leaves on the right have the bit of their level: u is added to its column before they come and after them.
+// The leaves on the right have the bit of their level: u is added to its column before them and after them, so that only they stay.
 pub fn walk(nodes: &[u32; 32], levels: usize, batch: u32, u: &mut [u32], v: &mut [u32])
     requires { ⌜ levels * length (now u) ≤ length (now v) ⌝ }
     requires { ⌜ (length (now u) % 64 ≡ 0) × (length (now u) ≤ 512) × (0 < length (now u)) ⌝ }
@@ -73,7 +73,7 @@ pub fn walk(nodes: &[u32; 32], levels: usize, batch: u32, u: &mut [u32], v: &mut
     } else {
         let c = chacha20::four::block(nodes, 0, &chacha20::nonce(0, 0));
         walk(&nodes_at(&c, 0), levels - 1, batch, u, v);
-        add_column(v, levels - 1, u);
+        add_column(v, levels - 1, u); // what u has so far goes when u is added again
         walk(&nodes_at(&c, 32), levels - 1, batch, u, v);
         add_column(v, levels - 1, u);
     }
