@@ -13,7 +13,7 @@ use borrow.Rule.Slice.PartMut.{putMid}
 use Rattle.words.specs.Bytes.{bytes, tabulate, part, concat}
 use Rattle.words.specs.Lanes.{laneBytes}
 use Rattle.words.specs.Xor.{xorEach, xorPart, sumTo}
-use Rattle.words.proofs.Below.{below}
+use Rattle.words.proofs.Numbers.{bytes-zero}
 use Rattle.words.proofs.Lists.{tabulate-length, tabulate-at, tabulate-same, xorPart-length, part-added}
 use Rattle.words.proofs.Concat.{place-fits, part-at, place-part, concat-same, concat-length, concat-part, concat-at}
 use Rattle.words.proofs.Sums.{sumTo-same}
@@ -108,7 +108,7 @@ module _ (k : ℕ) (side : ℕ → ℕ) (low : (l : ℕ) → side l < 2) (totals
         made = λ x lo lt.
             laneBytes-at i (16 * k) t x (omega arith)
             ∙ ap (λ (w : ℕ). getD (bytes 4 w) (x % 4) 0) (zeros (4 * (x / 4) + i))
-            ∙ below (λ (b : ℕ). getD (bytes 4 0) b 0 ≡ 0) 4 ((((tt, refl), refl), refl), refl) (x % 4) (omega arith);
+            ∙ bytes-zero 4 (x % 4);
       }
     where
       first : (j b : ℕ) → j ≡ 0 → b < 32 → getD (laneBytes i (8 * k) s) (32 * j + b) 0 ≡ getD (nodeAt side totals j) b 0
