@@ -1,7 +1,6 @@
 -- The answers of paper 01, 'Steps and their turning away'. Assumes nothing.
 use mathlib.Core.Path.{_≡_}
 use mathlib.Core.Bool.{Bool, true, false}
-use mathlib.Core.List.{List}
 use Prim.Native.Nat.{ℕ}
 use lib.Dec.{eqb}
 use Rattle.answer.specs.declared.Answer.{Answer}
@@ -35,8 +34,8 @@ either false b = b
 unfoldable pub widthAllowed : ℕ → Bool
 widthAllowed k = either (eqb k 1) (either (eqb k 2) (either (eqb k 4) (eqb k 8)))
 
--- what a range holds after a step: where it is done the new bytes, and after a refusal the old ones
-abbrev pub whenDone : Answer → List ℕ → List ℕ → List ℕ
+-- what a range or a record holds after a step: where it is done the new value, and after a refusal the old one
+abbrev pub whenDone : {A : Type 0} → Answer → A → A → A
 whenDone Done new old = new
 whenDone Width new old = old
 whenDone Stage new old = old

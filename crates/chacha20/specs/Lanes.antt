@@ -3,14 +3,13 @@ use mathlib.Core.Path.{_≡_}
 use Prim.Native.Nat.{ℕ, _<_}
 use mathlib.Core.List.{List, [], _∷_}
 use lib.ListN.{length}
-use Rattle.words.specs.Bytes.{bytesOfWords}
-use Rattle.words.specs.Lanes.{lane, laned}
+use Rattle.words.specs.Lanes.{lane, laneBytes, laned}
 use Rattle.chacha20.specs.ChaCha.{blockWords}
 use Rattle.chacha20.specs.declared.four.State.{State}
 
 -- the key in lane l, as its bytes
 unfoldable pub keyIn : ℕ → List ℕ → List ℕ
-keyIn l keys = bytesOfWords (lane l 8 keys)
+keyIn l keys = laneBytes l 8 keys
 
 -- the blocks of four keys side by side, under one counter and nonce
 unfoldable pub blocksOf : List ℕ → ℕ → List ℕ → List ℕ

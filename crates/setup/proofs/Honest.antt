@@ -14,12 +14,12 @@ use Rattle.words.proofs.Lists.{tabulate-length, tabulate-at, xorEach-length, xo
 use Rattle.words.proofs.Concat.{place-fits, part-length, concat-same, concat-length, concat-part, concat-at}
 use Rattle.words.proofs.Sums.{sumTo-same}
 use Rattle.tree.specs.Tree.{childOf, sumBelow, totalOf}
-use Rattle.tree.specs.Path.{pathNode, siblingNode}
+use Rattle.tree.specs.Path.{pathNode, siblingNode, sideOf}
 use Rattle.tree.proofs.Sums.{child-length}
 use Rattle.tree.proofs.Path.{sibling}
 use Rattle.tree.specs.Layout.{treesOf, rootOf, deltaOf, treePart}
 use Rattle.setup.specs.Setup.{treeMessage, messageOf}
-use Rattle.setup.specs.Setup.{sideOf, unmasked, nextNode, nodesFound, treeSiblings, siblingsOf, senderPads, besidePaths}
+use Rattle.setup.specs.Setup.{unmasked, nextNode, nodesFound, treeSiblings, siblingsOf, senderPads, besidePaths}
 
 total-length : (root : List ℕ) (l s : ℕ) → length (totalOf root l s) ≡ 32
 unfolding totalOf

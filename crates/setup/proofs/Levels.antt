@@ -25,7 +25,7 @@ use Rattle.tree.proofs.Sums.{child-byte, sum-same}
 use Rattle.tree.proofs.Lanes.{total-lane}
 use Rattle.tree.specs.Layout.{treePart}
 use Rattle.setup.specs.Setup.{unmasked, nextNode, nodesFound}
-use Rattle.setup.specs.Sides.{foundIn}
+use Rattle.setup.specs.Found.{foundIn}
 
 -- ---- unmasking
 

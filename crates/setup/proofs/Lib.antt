@@ -1,8 +1,7 @@
 -- The laws that other crates cite.
 pub mod Answers
 pub mod Honest
-pub mod Widths
 pub mod Message
-pub mod Sides
+pub mod Chosen
 pub mod Levels
 pub mod Find

@@ -1,2 +1,2 @@
 pub mod Setup
-pub mod Sides
+pub mod Found

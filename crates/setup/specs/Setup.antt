@@ -7,7 +7,7 @@ use lib.ListN.{length, getD}
 use Rattle.words.specs.Bytes.{part, tabulate, concat}
 use Rattle.words.specs.Xor.{_⊕_, xorList, sumTo}
 use Rattle.tree.specs.Tree.{childOf, sumBelow, totalOf}
-use Rattle.tree.specs.Path.{pathBit, siblingNode}
+use Rattle.tree.specs.Path.{siblingNode, sideOf}
 use Rattle.tree.specs.Layout.{treesOf, rootOf, deltaOf, treePart}
 use Rattle.answer.specs.declared.Answer.{Answer}
 use Rattle.answer.specs.declared.Answer.the-variants.{Done, Width, Length}
@@ -25,11 +25,7 @@ messageOf k roots pads = concat (treesOf k) (λ i. treeMessage k (rootOf roots i
 
 -- ---- the sender, from any message and any pads
 
--- the side whose total the sender can unmask at a level, and the number of the pad that it has there: 1 minus the path bit
-abbrev pub sideOf : ℕ → ℕ → ℕ → ℕ
-sideOf k d level = 1 - pathBit k d level
-
--- the sender unmasks one total per level: of its side, by the pad that it has
+-- the sender unmasks one total per level: of the sibling's side, by the pad of that number, the one that it has
 unfoldable pub unmasked : ℕ → (ℕ → ℕ) → List ℕ → List ℕ → List ℕ
 unmasked k side message pads =
     concat k (λ l. tabulate 32 (λ j. getD message (64 * l + 32 * side l + j) 0 ⊕ getD pads (32 * l + j) 0))

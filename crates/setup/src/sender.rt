@@ -11,7 +11,8 @@ ghost use Rattle.answer.specs.Answer.{widthAllowed};
 ghost use Rattle.tree.specs.Lanes.{totalWord};
 ghost use Rattle.tree.specs.Layout.{columns, treesOf};
 ghost use Rattle.setup.specs.Setup.{unmasked, nodesFound, siblingsOf, senderSetupAnswer};
-ghost use Rattle.setup.specs.Sides.{sidesOf, Sides, foundIn};
+ghost use Rattle.tree.specs.Sides.{Sides};
+ghost use Rattle.setup.specs.Found.{foundIn};
 
 // The answer of the sender's setup, from its width and the lengths of its ranges.
 pub fn setup_answer(
@@ -41,42 +42,12 @@ pub fn setup_answer(
     Answer::Done
 }
 
-// For each base transfer the side whose total the sender can unmask: 1 minus the path's bit, which is delta's highest of the tree at
-// level 0. (In memory the compiler doesn't see that a side is a bit: where it sees that, it may turn a mask back into a branch.)
-fn sides(k: usize, delta: &[u8]) -> [u8; 128]
-    requires { ⌜ (widthAllowed k ≡ true) × (length (now delta) ≡ 16) ⌝ }
-    ensures { λ r. ⌜ r ≡ sidesOf k (now (delta .entry)) ⌝ }
-{
-    let mut r = [0u8; 128];
-    let mut c = 0;
-    let mut level = 0;
-    while c < 128 {
-        let tree = c - level;
-        let highest = k - 1 - level;
-        r[c] = 1 - words::bit(delta, tree + highest);
-        c += 1;
-        level += 1;
-        if level == k {
-            level = 0;
-        }
-    }
-    r
-}
-
-// All ones for side 1, and 0 for side 0.
-fn mask(side: u8) -> u32
-    requires { ⌜ side < 2 ⌝ }
-    ensures { λ r. ⌜ r ≡ side * (2 ^ 32 - 1) ⌝ }
-{
-    std::num::wrapping_sub_u32(0, side as u32)
-}
-
 // Fills out with one side's total of two, unmasked by a pad.
 fn unmask(out: &mut [u8], totals: &[u8], pad: &[u8], side: u8)
     requires { ⌜ (length (now out) ≡ 32) × (length (now totals) ≡ 64) × (length (now pad) ≡ 32) × (side < 2) ⌝ }
     ensures { λ _. ⌜ now (out .exit) ≡ tabulate 32 (λ j. getD (now (totals .entry)) (32 * side + j) 0 ⊕ getD (now (pad .entry)) j 0) ⌝ }
 {
-    let ones = (mask(side) % 256) as u8;
+    let ones = (tree::side::mask(side) % 256) as u8;
     let mut j = 0;
     while j < 32 {
         let left = totals[j];
@@ -115,23 +86,10 @@ fn take_off(nodes: &mut [u32], totals: &[u32], sides: [u8; 4])
     let mut i = 0;
     while i < 32 {
         let left = totals[i];
-        let ones = mask(sides[i % 4]);
+        let ones = tree::side::mask(sides[i % 4]);
         nodes[i] = nodes[i] ^ (left ^ ((left ^ totals[32 + i]) & ones));
         i += 1;
     }
-}
-
-// The sides of four trees of k levels at a level.
-fn lane_sides(k: usize, level: usize, sides: &[u8]) -> [u8; 4]
-    requires { ⌜ (level < k) × (length (now sides) ≡ 4 * k) ⌝ }
-    ensures { λ r. ⌜ r ≡ tabulate 4 (λ i. getD (now (sides .entry)) (i * k + level) 0) ⌝ }
-{
-    [
-        sides[level],
-        sides[k + level],
-        sides[2 * k + level],
-        sides[3 * k + level],
-    ]
 }
 
 // From the nodes found at a level to those of the next, in four trees of k levels: t has what the nodes found above it make at each
@@ -152,7 +110,7 @@ fn next_level(k: usize, level: usize, sides: &[u8], t: &mut [u32], s: &mut [u32]
     take_off(
         &mut s[first..last],
         &t[below..end],
-        lane_sides(k, next, sides),
+        tree::side::of_four(k, next, sides),
     );
 }
 
@@ -216,7 +174,7 @@ pub fn find_siblings(k: usize, delta: &[u8], pads: &[u8], message: &[u8], siblin
     requires { ⌜ (widthAllowed k ≡ true) × (length (now delta) ≡ 16) × (length (now pads) ≡ 4096) × (length (now message) ≡ 8192) × (length (now siblings) ≡ 4096) ⌝ }
     ensures { λ _. ⌜ now (siblings .exit) ≡ siblingsOf k (now (delta .entry)) (now (pads .entry)) (now (message .entry)) ⌝ }
 {
-    let side = sides(k, delta);
+    let side = tree::side::all(k, delta);
     unmask_all(&side, pads, message, siblings);
     // where a tree has one level there is nothing to take off
     if k > 1 {

@@ -12,7 +12,7 @@ use Rattle.tree.specs.Layout.{treesOf}
 use Rattle.setup.specs.Setup.{messageOf, siblingsOf, senderPads, besidePaths, ReceiverSetup, SenderSetup}
 use Rattle.setup.proofs.Answers.{receiver-fits, receiver-done, sender-done}
 use Rattle.setup.proofs.Honest.{messageOf-length, senderPads-length, honest-setup, pads-enough}
-use Rattle.setup.proofs.Widths.{width-fits}
+use Rattle.tree.proofs.Widths.{width-fits}
 
 module _ (width : ℕ) (roots pads message message′ delta siblings siblings′ : List ℕ) (answer answer′ : Answer)
     (received : ReceiverSetup width roots pads message answer message′)

@@ -11,7 +11,7 @@ use Rattle.gf64.specs.Field.{fold, foldBytes}
 use Rattle.gf64.specs.Check.{columnSide, choiceSide}
 use Rattle.tree.specs.Path.{pathBit, siblingNumber}
 use Rattle.tree.specs.Columns.{uAt, receiverAt, senderAt}
-use Rattle.setup.specs.Setup.{sideOf}
+use Rattle.tree.specs.Path.{sideOf}
 
 pub data Case : Type 0 where
   -- a key and words: their fold

@@ -3,3 +3,4 @@ pub mod Path
 pub mod Columns
 pub mod Layout
 pub mod Lanes
+pub mod Sides

@@ -23,3 +23,7 @@ siblingNode k root d level = childOf (1 - pathBit k d level) (pathNode k root d 
 
 abbrev pub siblingNumber : ℕ → ℕ → ℕ → ℕ
 siblingNumber k d level = 2 * pathNumber k d level + (1 - pathBit k d level)
+
+-- the side that the sibling made at a level is on: 1 minus the path bit
+abbrev pub sideOf : ℕ → ℕ → ℕ → ℕ
+sideOf k d level = 1 - pathBit k d level

@@ -1,4 +1,6 @@
 // What a walk of the trees makes and adds up. Four trees go side by side: word w of lane l stands at 4w + l.
+pub mod side;
+
 ghost use mathlib.Core.Path.{_≡_};
 ghost use Prim.Native.Nat.{_+_, _*_, _%_, _≤_, _<_};
 ghost use lib.ListN.{length, getD};
@@ -51,7 +53,7 @@ fn add_stream(leaves: &[u32; 32], batch: u32, u: &mut [u32])
 }
 
 // Adds u to column r of v.
-fn add_column(v: &mut [u32], r: usize, u: &[u32])
+pub fn add_column(v: &mut [u32], r: usize, u: &[u32])
     requires { ⌜ r * length (now u) + length (now u) ≤ length (now v) ⌝ }
     ensures { λ _. ⌜ now (v .exit) ≡ xorPart (now (v .entry)) (r * length (now (u .entry))) (length (now (u .entry))) (λ i. getD (now (u .entry)) i 0) ⌝ }
 {

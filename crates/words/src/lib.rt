@@ -2,7 +2,7 @@
 ghost use mathlib.Core.Path.{_≡_};
 ghost use mathlib.Core.List.{[], _∷_};
 ghost use Prim.Native.Nat.{ℕ, _+_, _*_, _/_, _%_, _^_, _≤_, _<_};
-ghost use lib.ListN.{length, getD};
+ghost use lib.ListN.{length, getD, replicate};
 ghost use Rattle.words.specs.Bytes.{number, bytes, word32, word64, words32, bytesOfWords, part, put, concat};
 ghost use Rattle.words.specs.Lanes.{laneBytes};
 ghost use Rattle.words.specs.Bits.{bitAt};
@@ -168,6 +168,17 @@ pub fn load_words(dst: &mut [u32], s: &[u8])
     let mut i = 0;
     while i < dst.len() {
         dst[i] = load32(s, 4 * i);
+        i += 1;
+    }
+}
+
+// Sets every word to 0.
+pub fn clear(t: &mut [u32])
+    ensures { λ _. ⌜ now (t .exit) ≡ replicate (length (now (t .entry))) 0 ⌝ }
+{
+    let mut i = 0;
+    while i < t.len() {
+        t[i] = 0;
         i += 1;
     }
 }

@@ -6,7 +6,7 @@ use borrow.Author.Tests.{eq-eqb, ne-eqb, not-true, not-false}
 use Rattle.answer.specs.Answer.{widthAllowed}
 use Rattle.answer.proofs.Laws.{passed, failed, both-yes, both-first, both-second}
 use Rattle.setup.specs.Setup.{receiverSetupAnswer}
-use Rattle.setup.proofs.Widths.{width-fits}
+use Rattle.tree.proofs.Widths.{width-fits}
 use borrow.Author.Needs.{needs}
 use Rattle.setup.proofs.receiver.setup_answer.Statement.{statement}
 use Rattle.setup.proofs.receiver.setup_answer.Tie as tie

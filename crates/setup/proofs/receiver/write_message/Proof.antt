@@ -12,7 +12,7 @@ use Rattle.words.proofs.Concat.{concat-grow, concat-length}
 use Rattle.tree.specs.Layout.{treesOf, rootOf, treePart}
 use Rattle.setup.specs.Setup.{treeMessage, messageOf}
 use Rattle.setup.proofs.Honest.{message-length}
-use Rattle.setup.proofs.Widths.{width-fits, four-fit}
+use Rattle.tree.proofs.Widths.{width-fits, four-fit}
 use Rattle.setup.proofs.Message.{four-from}
 use Rattle.setup.proofs.receiver.write_message.Statement.{statement}
 use Rattle.setup.proofs.receiver.write_message.Tie as tie

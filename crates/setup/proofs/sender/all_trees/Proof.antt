@@ -11,8 +11,8 @@ use Rattle.words.specs.Bytes.{concat}
 use Rattle.words.proofs.Concat.{concat-grow, concat-length, part-lt, rest-kept}
 use Rattle.tree.specs.Layout.{treesOf, treePart}
 use Rattle.setup.specs.Setup.{nodesFound}
-use Rattle.setup.specs.Sides.{foundIn}
-use Rattle.setup.proofs.Widths.{width-fits, four-fit}
+use Rattle.setup.specs.Found.{foundIn}
+use Rattle.tree.proofs.Widths.{width-fits, four-fit}
 use Rattle.setup.proofs.Levels.{found-length, four-found}
 use Rattle.setup.proofs.sender.all_trees.Statement.{statement}
 use Rattle.setup.proofs.sender.all_trees.Tie as tie

@@ -7,22 +7,23 @@ use lib.ListN.{length, getD}
 use borrow.Author.Needs.{needs}
 use Rattle.tree.specs.Layout.{columns, treesOf}
 use Rattle.setup.specs.Setup.{unmasked}
-use Rattle.setup.proofs.Widths.{width-fits}
-use Rattle.setup.specs.Sides.{Sides, foundIn}
-use Rattle.setup.proofs.Sides.{sides-length, sides-lt}
+use Rattle.tree.proofs.Widths.{width-fits}
+use Rattle.tree.specs.Sides.{Sides}
+use Rattle.setup.specs.Found.{foundIn}
+use Rattle.tree.proofs.Sides.{sides-length, sides-lt}
 use Rattle.setup.proofs.Find.{siblings-found, siblings-first}
 use Rattle.setup.proofs.sender.find_siblings.Statement.{statement}
 use Rattle.setup.proofs.sender.find_siblings.Tie as tie
 
-sides-requires : tie.Need-sides-requires
-sides-requires c κs = (c .before .before .before .before .pre .0, c .before .before .before .before .pre .1)
+all-requires : tie.Need-all-requires
+all-requires c κs = (c .before .before .before .before .pre .0, c .before .before .before .before .pre .1)
 
 -- the sides: as many as base transfers, and each 0 or 1
-long : (c : tie.After-sides) → length (c .sides .result) ≡ 128
-long c = ap length (c .sides .ensures) ∙ sides-length (c .before .before .before .before .before .args .k) (c .before .before .before .before .before .args .delta .now)
+long : (c : tie.After-all) → length (c .all .result) ≡ 128
+long c = ap length (c .all .ensures) ∙ sides-length (c .before .before .before .before .before .args .k) (c .before .before .before .before .before .args .delta .now)
 
-low : (c : tie.After-sides) → Sides (c .sides .result)
-low c i = rw (c .sides .ensures) (sides-lt (c .before .before .before .before .before .args .k) (c .before .before .before .before .before .args .delta .now) i)
+low : (c : tie.After-all) → Sides (c .all .result)
+low c i = rw (c .all .ensures) (sides-lt (c .before .before .before .before .before .args .k) (c .before .before .before .before .before .args .delta .now) i)
 
 slice-aggregate-unmask-all : tie.Need-slice-aggregate-unmask-all
 slice-aggregate-unmask-all c = sym (long (c .before))
@@ -47,7 +48,7 @@ same-length c = search needs
 returns : tie.Need-returns
 returns c =
     let s = c .before .before .before .before .before .before .before .before .before .before .before .before .before .before .before .before in
-    let side = c .before .before .before .before .before .before .before .before .before .before .before .sides in
+    let side = c .before .before .before .before .before .before .before .before .before .before .before .all in
     let k = s .args .k in
     let message = s .args .message .now in
     let pads = s .args .pads .now in
@@ -67,14 +68,14 @@ returns-2 c =
     let pads = s .args .pads .now in
     let one : k ≡ 1 = omega (arith, width-fits k (s .pre .0) .some) in
     c .before .before .before .unmask-all .ensures
-    ∙ ap (λ (z : List ℕ). unmasked columns (λ c. getD z c 0) message pads) (c .before .before .before .before .before .before .sides .ensures)
+    ∙ ap (λ (z : List ℕ). unmasked columns (λ c. getD z c 0) message pads) (c .before .before .before .before .before .before .all .ensures)
     ∙ siblings-first k (s .pre .0) (s .args .delta .now) message pads one
 
 pub find-siblings-spec : {M : Type 1} → statement M
 find-siblings-spec =
     tie.close
     (tie.spec
-    sides-requires
+    all-requires
     slice-aggregate-unmask-all
     unmask-all-requires
     slice-aggregate-all-trees

@@ -101,8 +101,8 @@ part-take-off-end-2 c =
     let walked = c .before .before .before .before in
     omega (arith, fits (walked .before .before .before .before .before .before .before .before), added walked .1)
 
-lane-sides-requires : tie.Need-lane-sides-requires
-lane-sides-requires c κs =
+of-four-requires : tie.Need-of-four-requires
+of-four-requires c κs =
     let s = c .before .before .before .before .before .before .before .before .before .before .before .before .before in
     (omega (arith, s .pre .0 .0), s .pre .0 .2)
 
@@ -116,7 +116,7 @@ take-off-requires c κs =
       mid-len (32 * next) (32 * next + 32) (s .args .s .now) (omega (arith, fits s)) ∙ nodes,
       part-length (64 * next) (64 * next + 64 - 64 * next) _ (omega (arith, fits s, added (c .before .before .before .before .before .before) .1)) ∙ totals,
       λ i.
-          rw (c .lane-sides .ensures)
+          rw (c .of-four .ensures)
           (tabulate-lt 4 2 (λ i. getD (s .args .sides .now) (i * k + next) 0) (omega arith) (λ i. s .pre .0 .3 (i * k + next)) i),
     )
 
@@ -134,7 +134,7 @@ returns c =
     let a : ℕ = 64 * next in
     let b : ℕ = 32 * next in
     let t = putMid a (length (s .args .t .now) - a) (s .args .t .now) (c .before .before .before .before .before .before .before .before .before .totals .last .1 .1 .0) in
-    let sides = c .before .before .before .lane-sides in
+    let sides = c .before .before .before .of-four in
     let side : ℕ → ℕ = λ i. getD (s .args .sides .now) (i * k + next) 0 in
     let long : length (part b (b + 32 - b) (s .args .s .now)) ≡ b + 32 - b = mid-len b (b + 32) (s .args .s .now) (omega (arith, fits s)) in (
       added (c .before .before .before .before .before .before .before .before .before) .0,
@@ -172,7 +172,7 @@ next-level-spec =
     sub-take-off-2
     part-take-off-start-2
     part-take-off-end-2
-    lane-sides-requires
+    of-four-requires
     take-off-requires
     same-length
     same-length-2

@@ -7,7 +7,7 @@ use lib.ListN.{getD, take}
 use borrow.Author.Needs.{needs}
 use Rattle.words.proofs.Lists.{Updated, updated-none, updated-one, updated-all, xorEach-length, xorEach-at}
 use Rattle.words.specs.Xor.{xorEach}
-use Rattle.setup.proofs.Sides.{chosen}
+use Rattle.setup.proofs.Chosen.{chosen}
 use Rattle.setup.proofs.sender.take_off.Statement.{statement}
 use Rattle.setup.proofs.sender.take_off.Tie as tie
 

@@ -1,4 +1,4 @@
--- A side as a mask, and the sides of delta. Assumes nothing.
+-- The sides of delta. Assumes nothing.
 use mathlib.Core.Path.{_≡_, refl, sym, ap, _∙_}
 use mathlib.Core.List.{List}
 use mathlib.Core.Bool.{true}
@@ -13,26 +13,9 @@ use Rattle.words.proofs.Sums.{ofBits-bit}
 use Rattle.words.proofs.Lists.{tabulate-length, tabulate-at, tabulate-lt}
 use Rattle.answer.specs.Answer.{widthAllowed}
 use Rattle.answer.proofs.Laws.{width-cases}
 use Rattle.tree.specs.Layout.{deltaOf}
-use Rattle.setup.specs.Setup.{sideOf}
-use Rattle.setup.specs.Sides.{sidesOf, Sides}
-
--- of two elements 32 places apart, words of w bits, a mask that is all ones or none takes the one on its side
-pub chosen : (w : ℕ) (t : List ℕ) (j side mask : ℕ) → getD t j 0 < 2 ^ w → getD t (32 + j) 0 < 2 ^ w → side < 2
-    → mask ≡ side * (2 ^ w - 1)
-    → bitXor (getD t j 0) (bitAnd (bitXor (getD t j 0) (getD t (32 + j) 0)) mask) ≡ getD t (32 * side + j) 0
-chosen w t j side mask ha hb hs e =
-    ap (λ (m : ℕ). bitXor a (bitAnd (bitXor a b) m)) e
-    ∙ ap (bitXor a) (and-bit w (bitXor a b) side (xor-lt w a b ha hb) hs)
-    ∙ digit (λ (s : ℕ). bitXor a (s * bitXor a b) ≡ getD t (32 * s + j) 0)
-    (ap (bitXor a) (zero-mul (bitXor a b)) ∙ xor-zero-r a ∙ ap (λ (i : ℕ). getD t i 0) (omega arith))
-    (ap (bitXor a) (one-mul (bitXor a b)) ∙ xor-cancel a b) side hs
-  where
-    a : ℕ
-    a = getD t j 0
-
-    b : ℕ
-    b = getD t (32 + j) 0
+use Rattle.tree.specs.Path.{sideOf}
+use Rattle.tree.specs.Sides.{sidesOf, Sides}
 
 -- ---- the bit of delta that a base transfer goes by
 

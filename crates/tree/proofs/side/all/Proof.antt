@@ -1,14 +1,14 @@
--- `setup::sender::sides` meets its contract: the sides below c are those of their base transfers; `level` is c's. Assumes nothing.
+-- `tree::side::all` meets its contract: the sides below c are those of their base transfers; `level` is c's. Assumes nothing.
 use mathlib.Core.Path.{_≡_, sym, ap, _∙_}
 use Prim.Native.Nat.{ℕ, _+_, _-_, _%_, _≤_}
 use native.Mathlib.Omega.{arith}
 use lib.ListN.{set, length-replicate}
 use Rattle.words.specs.Bits.{bitAt}
 use Rattle.words.proofs.Progress.{Begun, begun-none, begun-set, begun-all}
-use Rattle.setup.specs.Sides.{sidesOf}
-use Rattle.setup.proofs.Sides.{side-bit, sides-length, sides-at, LevelFits, level-fits, level-first, level-wraps, level-next}
-use Rattle.setup.proofs.sender.sides.Statement.{statement}
-use Rattle.setup.proofs.sender.sides.Tie as tie
+use Rattle.tree.specs.Sides.{sidesOf}
+use Rattle.tree.proofs.Sides.{side-bit, sides-length, sides-at, LevelFits, level-fits, level-first, level-wraps, level-next}
+use Rattle.tree.proofs.side.all.Statement.{statement}
+use Rattle.tree.proofs.side.all.Tie as tie
 
 abbrev Inv-loop : tie.InvT-loop
 Inv-loop k delta r₀ c₀ level₀ r c level = (c ≤ 128) × (level ≡ c % k) × Begun c (sidesOf k delta) r
@@ -95,8 +95,8 @@ returns c =
     let w = c .before .loop in
     begun-all (w .c) (sidesOf (s .args .k) (s .args .delta .now)) (w .r) (omega (arith, sides-length (s .args .k) (s .args .delta .now))) (w .inv .2)
 
-pub sides-spec : {M : Type 1} → statement M
-sides-spec =
+pub all-spec : {M : Type 1} → statement M
+all-spec =
     tie.close
     (tie.spec
     Inv-loop

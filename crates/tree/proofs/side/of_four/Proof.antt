@@ -1,4 +1,4 @@
--- `setup::sender::lane_sides` meets its contract. Assumes nothing.
+-- `tree::side::of_four` meets its contract. Assumes nothing.
 use mathlib.Core.Path.{_≡_, ap₂}
 use mathlib.Core.List.{[], _∷_}
 use Prim.Native.Nat.{ℕ, _+_, _-_, _*_}
@@ -6,8 +6,8 @@ use native.Mathlib.Omega.{arith}
 use lib.ListN.{getD}
 use Rattle.words.specs.Bytes.{tabulate}
 use borrow.Author.Needs.{needs}
-use Rattle.setup.proofs.sender.lane_sides.Statement.{statement}
-use Rattle.setup.proofs.sender.lane_sides.Tie as tie
+use Rattle.tree.proofs.side.of_four.Statement.{statement}
+use Rattle.tree.proofs.side.of_four.Tie as tie
 
 shared-slice-read-t5 : tie.Need-shared-slice-read-t5
 shared-slice-read-t5 c = search needs
@@ -46,8 +46,8 @@ returns c =
     let second : k + l ≡ 1 * k + l = omega arith in
     ap₂ (λ (i j : ℕ). getD sides i 0 ∷ getD sides j 0 ∷ getD sides (2 * k + l) 0 ∷ getD sides (3 * k + l) 0 ∷ []) first second
 
-pub lane-sides-spec : {M : Type 1} → statement M
-lane-sides-spec =
+pub of-four-spec : {M : Type 1} → statement M
+of-four-spec =
     tie.close
     (tie.spec
     shared-slice-read-t5
