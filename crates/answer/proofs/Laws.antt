@@ -29,6 +29,9 @@ both-first a b p = ap (λ (x : Bool). both x b) p
 pub both-second : (a b : Bool) → a ≡ true → b ≡ false → both a b ≡ false
 both-second a b p q = ap (λ (x : Bool). both x b) p ∙ q
 
+pub both-next : (a b : Bool) → a ≡ true → both a b ≡ b
+both-next a b p = ap (λ (x : Bool). both x b) p
+
 pub either-first : (a b : Bool) → a ≡ true → either a b ≡ true
 either-first a b p = ap (λ (x : Bool). either x b) p
 
@@ -76,7 +79,7 @@ is-done Blocks e = absurd (miss (0 ∷ []) _ tt e)
 is-done Length e = absurd (miss (0 ∷ []) _ tt e)
 is-done Check e = absurd (miss (0 ∷ []) _ tt e)
 
-pub not-done : (x : Answer) (new old : List ℕ) → OneOf (1 ∷ 2 ∷ 3 ∷ 4 ∷ 5 ∷ 6 ∷ []) (tagOf A.the-type x) → old ≡ whenDone x new old
+pub not-done : {B : Type 0} (x : Answer) (new old : B) → OneOf (1 ∷ 2 ∷ 3 ∷ 4 ∷ 5 ∷ 6 ∷ []) (tagOf A.the-type x) → old ≡ whenDone x new old
 not-done Done new old e = absurd (miss (1 ∷ 2 ∷ 3 ∷ 4 ∷ 5 ∷ 6 ∷ []) 0 tt e)
 not-done Width new old e = refl
 not-done Stage new old e = refl

@@ -25,17 +25,23 @@ stageOpen = 1
 abbrev pub blocksAllowed : ℕ → Bool
 blocksAllowed blocks = both (leb 1 blocks) (leb blocks 15)
 
+-- 1 width not allowed; 2 wrong stage; 3 batch number; 4 blocks not 1 to 15; 5 a byte range of any length but the one named. The first is
+-- returned whose condition doesn't hold
+unfoldable pub inOrder : Bool → Bool → Bool → Bool → Bool → Answer
+inOrder width stage batch blocks lengths =
+    unless width Width
+    (unless stage Stage
+    (unless batch Batch
+    (unless blocks Blocks
+    (unless lengths Length
+    Done))))
+
 -- ---- the two that open a batch
 
 -- 1; 2 unless ready; 3 if the number is 0 or not above the last; 4; 5
-unfoldable pub openAnswer : Record → ℕ → ℕ → Bool → Answer
+abbrev pub openAnswer : Record → ℕ → ℕ → Bool → Answer
 openAnswer r batch blocks lengths =
-    unless (widthAllowed (r .width)) Width
-    (unless (eqb (r .stage) stageReady) Stage
-    (unless (both (ltb 0 batch) (ltb (r .last) batch)) Batch
-    (unless (blocksAllowed blocks) Blocks
-    (unless lengths Length
-    Done))))
+    inOrder (widthAllowed (r .width)) (eqb (r .stage) stageReady) (both (ltb 0 batch) (ltb (r .last) batch)) (blocksAllowed blocks) lengths
 
 -- done sets last, blocks and stage 1
 abbrev pub opened : Record → ℕ → ℕ → Record
@@ -70,14 +76,8 @@ pub record SenderCorrect (r : Record) (siblings delta : List ℕ) (batch blocks 
 -- ---- the two that end it
 
 -- 1; 2 unless open; 3 if last is 0; 4; 5
-unfoldable pub endAnswer : Record → Bool → Answer
-endAnswer r lengths =
-    unless (widthAllowed (r .width)) Width
-    (unless (eqb (r .stage) stageOpen) Stage
-    (unless (ltb 0 (r .last)) Batch
-    (unless (blocksAllowed (r .blocks)) Blocks
-    (unless lengths Length
-    Done))))
+abbrev pub endAnswer : Record → Bool → Answer
+endAnswer r lengths = inOrder (widthAllowed (r .width)) (eqb (r .stage) stageOpen) (ltb 0 (r .last)) (blocksAllowed (r .blocks)) lengths
 
 -- done sets ready, blocks 0
 abbrev pub ended : Record → Record

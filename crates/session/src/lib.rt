@@ -1,4 +1,6 @@
 // A session's steps by value: the record goes in and comes back.
+mod answers;
+
 use answer::Answer;
 
 // The record of a session: its width, the last batch number (0 for none), the blocks of the open batch, and the stage (0 ready, 1 open,

@@ -1,0 +1,89 @@
+// The answers of a batch's steps, from the record, the numbers and the lengths of the ranges.
+use crate::Record;
+use answer::Answer;
+ghost use mathlib.Core.Path.{_≡_};
+ghost use mathlib.Core.Bool.{true};
+ghost use lib.Dec.{eqb, ltb};
+ghost use lib.ListN.{getD};
+ghost use Rattle.answer.specs.Answer.{both, widthAllowed};
+ghost use Rattle.tree.specs.Layout.{columnLength};
+ghost use Rattle.session.specs.Steps.{blocksAllowed, inOrder, openAnswer, endAnswer, startLengths, correctLengths, answerLengths};
+
+// The first condition that doesn't hold, before the lengths: they can be told only of a width and blocks that are allowed.
+fn in_order(width: bool, stage: bool, batch: bool, blocks: bool) -> Answer
+    ensures { λ r. ⌜ r ≡ inOrder width stage batch blocks true ⌝ }
+{
+    if !width {
+        return Answer::Width;
+    }
+    if !stage {
+        return Answer::Stage;
+    }
+    if !batch {
+        return Answer::Batch;
+    }
+    if !blocks {
+        return Answer::Blocks;
+    }
+    Answer::Done
+}
+
+// Whether a batch may have so many blocks.
+fn blocks_allowed(blocks: u32) -> bool
+    ensures { λ r. ⌜ r ≡ blocksAllowed blocks ⌝ }
+{
+    if blocks < 1 {
+        return false;
+    }
+    blocks <= 15
+}
+
+// Whether a batch number may follow the last.
+fn batch_follows(last: u32, batch: u32) -> bool
+    ensures { λ r. ⌜ r ≡ both (ltb 0 batch) (ltb last batch) ⌝ }
+{
+    if batch == 0 {
+        return false;
+    }
+    last < batch
+}
+
+// The answer of a step that opens a batch, before the lengths.
+fn open_answer(r: Record, batch: u32, blocks: u32) -> Answer
+    ensures { λ x. ⌜ x ≡ openAnswer r batch blocks true ⌝ }
+{
+    in_order(
+        answer::width_allowed(r.width),
+        r.stage == 0,
+        batch_follows(r.last, batch),
+        blocks_allowed(blocks),
+    )
+}
+
+// The answer of a step that ends a batch, before the lengths.
+fn end_answer(r: Record) -> Answer
+    ensures { λ x. ⌜ x ≡ endAnswer r true ⌝ }
+{
+    in_order(
+        answer::width_allowed(r.width),
+        r.stage == 1,
+        r.last > 0,
+        blocks_allowed(r.blocks),
+    )
+}
+
+// Whether four lengths are those named.
+fn lengths_are(found: [usize; 4], named: [usize; 4]) -> bool
+    ensures { λ r. ⌜ r ≡ both (eqb (getD found 0 0) (getD named 0 0)) (both (eqb (getD found 1 0) (getD named 1 0)) (both (eqb (getD found 2 0) (getD named 2 0)) (eqb (getD found 3 0) (getD named 3 0)))) ⌝ }
+{
+    if found[0] != named[0] {
+        return false;
+    }
+    if found[1] != named[1] {
+        return false;
+    }
+    if found[2] != named[2] {
+        return false;
+    }
+    found[3] == named[3]
+}
