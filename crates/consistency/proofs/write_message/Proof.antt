@@ -1,0 +1,58 @@
+-- `consistency::write_message` meets its contract: the choices' fold stands before the columns'. Assumes nothing.
+use mathlib.Core.Path.{refl, ap, _∙_}
+use Prim.Native.Nat.{ℕ}
+use native.Mathlib.Omega.{arith}
+use borrow.Author.Needs.{needs}
+use Rattle.words.specs.Bytes.{bytes, put}
+use Rattle.consistency.specs.Message.{checkMessage}
+use Rattle.consistency.proofs.Folds.{after-front}
+use Rattle.consistency.proofs.write_message.Statement.{statement}
+use Rattle.consistency.proofs.write_message.Tie as tie
+
+fold-requires : tie.Need-fold-requires
+fold-requires c κs = search needs
+
+store64-requires : tie.Need-store64-requires
+store64-requires c κs = search needs
+
+table-requires : tie.Need-table-requires
+table-requires c κs = search needs
+
+sub-fold-columns : tie.Need-sub-fold-columns
+sub-fold-columns c = search needs
+
+part-fold-columns-start : tie.Need-part-fold-columns-start
+part-fold-columns-start c = search needs
+
+part-fold-columns-end : tie.Need-part-fold-columns-end
+part-fold-columns-end c = search needs
+
+fold-columns-requires : tie.Need-fold-columns-requires
+fold-columns-requires c κs = search needs
+
+same-length : tie.Need-same-length
+same-length c = search needs
+
+returns : tie.Need-returns
+unfolding checkMessage
+returns c =
+    let b = c .before .before .before .before .before .before .before .before in
+    let s = b .before .before .before .before .before .before in
+    after-front (s .args .message .now) _ _ _ _ 8 1032
+    (b .store64 .ensures ∙ ap (λ (x : ℕ). put (s .args .message .now) 0 (bytes 8 x)) (b .before .fold .ensures))
+    (c .before .before .fold-columns .ensures (s .args .key) (c .before .before .before .before .before .table .ensures))
+    refl (s .pre .1) (omega arith)
+
+pub write-message-spec : {M : Type 1} → statement M
+write-message-spec =
+    tie.close
+    (tie.spec
+    fold-requires
+    store64-requires
+    table-requires
+    sub-fold-columns
+    part-fold-columns-start
+    part-fold-columns-end
+    fold-columns-requires
+    same-length
+    returns)
