@@ -1,0 +1,178 @@
+-- What the leaves below the siblings of one tree give to its columns, level by level, at one place. g is what a leaf has there.
+-- Assumes nothing.
+use mathlib.Core.Path.{_≡_, refl, sym, ap, ap₂, _∙_}
+use mathlib.Core.List.{List}
+use Prim.Native.Nat.{ℕ, zero, suc, _+_, _-_, _*_, _/_, _%_, _^_, _≤_, _<_}
+use native.Mathlib.Nat.{zero-mul, one-mul, mul-zero, add-comm, div-eq-of-lt, add-mul-mod-self-right}
+use native.Mathlib.Omega.{arith}
+use lib.Bits.{bitXor, xor-comm, xor-self, xor-shr, xor-block, xor-zero-r}
+use lib.Pow.{pow-lt, shr-shr, field, mod-mod-pow}
+use Rattle.words.specs.Bits.{bitOf}
+use Rattle.words.specs.Xor.{sumTo}
+use Rattle.words.proofs.Xor.{digit, bit-lt, bit-xor, bits-scale, scale-xor, xor-assoc, xor-swap, xor-cancel}
+use Rattle.words.proofs.Sums.{zero-bit}
+use Rattle.tree.specs.Tree.{sumBelow}
+use Rattle.tree.specs.Path.{pathBit, pathNumber, siblingNumber}
+use Rattle.tree.proofs.Sums.{sum-same, sum-xor, sum-times, sum-number, sum-shift}
+use Rattle.tree.proofs.Path.{path-bit-lt, path-number}
+
+-- ---- the bits of a number below bit r, and from there on
+
+low-bits : (x r b : ℕ) → b < r → bitOf (x % 2 ^ r) b ≡ bitOf x b
+low-bits x r b h =
+    let e : r ≡ (r - 1 - b) + (1 + b) = omega arith in
+    sym (field (x % 2 ^ r) 1 b)
+    ∙ ap (λ (i : ℕ). x % 2 ^ i % 2 ^ (1 + b) / 2 ^ b) e
+    ∙ ap (λ (y : ℕ). y / 2 ^ b) (mod-mod-pow x (r - 1 - b) (1 + b))
+    ∙ field x 1 b
+
+high-bits : (x r b : ℕ) → r ≤ b → bitOf x b ≡ bitOf (x / 2 ^ r) (b - r)
+high-bits x r b h =
+    let e : b ≡ r + (b - r) = omega arith in
+    ap (λ (i : ℕ). x / 2 ^ i % 2) e ∙ ap (λ (y : ℕ). y % 2) (sym (shr-shr x r (b - r)))
+
+-- 1 has no other bit
+one-bit : (b : ℕ) → 0 < b → bitOf 1 b ≡ 0
+one-bit b h = ap (λ (x : ℕ). x % 2) (div-eq-of-lt (pow-lt {i = 0} {j = b} h))
+
+-- ---- the numbers of the leaves below a sibling
+
+-- d's first bits are the sibling's number with the last bit turned
+beside-path : (p q : ℕ) → q < 2 → bitXor (2 * p + (1 - q)) (2 * p + q) ≡ 1
+beside-path p q h =
+    ap₂ bitXor (turn (1 - q)) (turn q)
+    ∙ xor-block 1 p p (1 - q) q (omega arith) h
+    ∙ ap₂ (λ (x y : ℕ). x * 2 ^ 1 + y) (xor-self p) (digit (λ (q : ℕ). bitXor (1 - q) q ≡ 1) refl refl q h)
+  where
+    turn : (r : ℕ) → 2 * p + r ≡ p * 2 ^ 1 + r
+    turn r = omega arith
+
+path-next : (k d l : ℕ) → d < 2 ^ k → l < k → d / 2 ^ (k - 1 - l) ≡ 2 * pathNumber k d l + pathBit k d l
+unfolding pathNumber
+path-next k d l h lt =
+    let e : k - suc l ≡ k - 1 - l = omega arith in
+    sym (path-number k d (suc l) h lt ∙ ap (λ (i : ℕ). d / 2 ^ i) e)
+
+-- so a leaf y below the sibling of level l has bit k - 1 - l of y ⊕ d, and no higher one
+leaf-bit : (k d l b y : ℕ) → d < 2 ^ k → l < k → k - 1 - l ≤ b → y / 2 ^ (k - 1 - l) ≡ siblingNumber k d l
+    → bitOf (bitXor y d) b ≡ bitOf 1 (b - (k - 1 - l))
+leaf-bit k d l b y h lt le q =
+    high-bits (bitXor y d) (k - 1 - l) b le
+    ∙ ap (λ (x : ℕ). bitOf x (b - (k - 1 - l)))
+    (xor-shr y d (k - 1 - l) ∙ ap₂ bitXor q (path-next k d l h lt) ∙ beside-path (pathNumber k d l) (pathBit k d l) (path-bit-lt k d l))
+
+-- ---- what one sibling gives to column b
+
+-- no leaf below a node numbered 0 has a bit from its levels on
+no-leaf : (r b : ℕ) (n : List ℕ) (g : List ℕ → ℕ) → r ≤ b → sumBelow r n 0 (λ y m. bitOf y b * g m) ≡ 0
+no-leaf r b n g h =
+    sum-same r n 0 (λ y m. bitOf y b * g m) (λ y m. 0 * g m)
+    (λ y m q. ap (λ (x : ℕ). x * g m) (high-bits y r b h ∙ ap (λ (x : ℕ). bitOf x (b - r)) q ∙ zero-bit (b - r)))
+    ∙ sum-times r n 0 0 (λ y m. g m) (omega arith)
+    ∙ zero-mul (sumBelow r n 0 (λ y m. g m))
+
+-- the lower bits of the leaves' numbers are the same whatever the node's number is
+low-leaves : (r b y : ℕ) (n : List ℕ) (g : List ℕ → ℕ) → b < r
+    → sumBelow r n y (λ z m. bitOf z b * g m) ≡ sumBelow r n 0 (λ z m. bitOf z b * g m)
+low-leaves r b y n g h =
+    sum-shift r n y (λ z m. bitOf z b * g m)
+    ∙ sum-same r n 0 (λ z m. bitOf (y * 2 ^ r + z) b * g m) (λ z m. bitOf z b * g m)
+    (λ z m q.
+    ap (λ (x : ℕ). x * g m)
+    (sym (low-bits (y * 2 ^ r + z) r b h)
+    ∙ ap (λ (x : ℕ). bitOf x b) (ap (λ (x : ℕ). x % 2 ^ r) (add-comm (y * 2 ^ r) z) ∙ add-mul-mod-self-right z y (2 ^ r))
+    ∙ low-bits z r b h))
+
+module _ (k d b : ℕ) (node : ℕ → List ℕ) (g : List ℕ → ℕ) (h : d < 2 ^ k) where
+  -- the ⊕ over the leaves below the sibling of level l: of all, of those whose number within the subtree has bit b, and of those that the
+  -- sender's column counts
+  abbrev pub allOf : ℕ → ℕ
+  allOf l = sumBelow (k - 1 - l) (node l) 0 (λ y m. g m)
+
+  abbrev pub withBit : ℕ → ℕ
+  withBit l = sumBelow (k - 1 - l) (node l) 0 (λ y m. bitOf y b * g m)
+
+  abbrev pub counted : ℕ → ℕ
+  counted l = sumBelow (k - 1 - l) (node l) (siblingNumber k d l) (λ y m. bitOf (bitXor y d) b * g m)
+
+  -- from the sibling's own bit on, all leaves have the bit or none
+  from-own : (l : ℕ) → l < k → k - 1 - l ≤ b → counted l ≡ bitOf 1 (b - (k - 1 - l)) * allOf l
+  from-own l lt le =
+      sum-same (k - 1 - l) (node l) (siblingNumber k d l) (λ y m. bitOf (bitXor y d) b * g m) (λ y m. bitOf 1 (b - (k - 1 - l)) * g m)
+      (λ y m q. ap (λ (x : ℕ). x * g m) (leaf-bit k d l b y h lt le q))
+      ∙ sum-times (k - 1 - l) (node l) (siblingNumber k d l) (bitOf 1 (b - (k - 1 - l))) (λ y m. g m) (bit-lt 1 (b - (k - 1 - l)))
+      ∙ ap (λ (x : ℕ). bitOf 1 (b - (k - 1 - l)) * x) (sum-number (k - 1 - l) (node l) (siblingNumber k d l) 0 g)
+
+  pub counted-above : (l : ℕ) → l < k → k - 1 - l < b → counted l ≡ 0
+  counted-above l lt gt =
+      from-own l lt (omega arith)
+      ∙ ap (λ (x : ℕ). x * allOf l) (one-bit (b - (k - 1 - l)) (omega arith))
+      ∙ zero-mul (allOf l)
+
+  pub counted-own : (l : ℕ) → l < k → k - 1 - l ≡ b → counted l ≡ allOf l
+  counted-own l lt e =
+      let none : b - (k - 1 - l) ≡ 0 = omega arith in
+      from-own l lt (omega arith) ∙ ap (λ (i : ℕ). bitOf 1 i * allOf l) none ∙ one-mul (allOf l)
+
+  pub counted-below : (l : ℕ) → b < k - 1 - l → counted l ≡ bitXor (withBit l) (bitOf d b * allOf l)
+  counted-below l lt =
+      sum-same (k - 1 - l) (node l) (siblingNumber k d l) (λ y m. bitOf (bitXor y d) b * g m)
+      (λ y m. bitXor (bitOf y b * g m) (bitOf d b * g m))
+      (λ y m q.
+      ap (λ (x : ℕ). x * g m) (bit-xor y d b) ∙ bits-scale (g m) (bitOf y b) (bitOf d b) (bit-lt y b) (bit-lt d b))
+      ∙ sum-xor (k - 1 - l) (node l) (siblingNumber k d l) (λ y m. bitOf y b * g m) (λ y m. bitOf d b * g m)
+      ∙ ap₂ bitXor (low-leaves (k - 1 - l) b (siblingNumber k d l) (node l) g lt)
+      (sum-times (k - 1 - l) (node l) (siblingNumber k d l) (bitOf d b) (λ y m. g m) (bit-lt d b)
+      ∙ ap (λ (x : ℕ). bitOf d b * x) (sum-number (k - 1 - l) (node l) (siblingNumber k d l) 0 g))
+
+  -- ---- the levels one after the other
+
+  -- those before the column's own
+  before-own : (l : ℕ) → l + b < k → sumTo l counted ≡ bitXor (sumTo l withBit) (bitOf d b * sumTo l allOf)
+  unfolding sumTo
+  before-own zero lt = sym (ap (bitXor 0) (mul-zero (bitOf d b)))
+  before-own (suc l) lt =
+      ap₂ bitXor (before-own l (omega arith)) (counted-below l (omega arith))
+      ∙ xor-swap (sumTo l withBit) (bitOf d b * sumTo l allOf) (withBit l) (bitOf d b * allOf l)
+      ∙ ap (bitXor (bitXor (sumTo l withBit) (withBit l))) (sym (scale-xor (bitOf d b) (sumTo l allOf) (allOf l) (bit-lt d b)))
+
+  -- its own, level l. The column x had those with bit b so far, u the correction and all so far: u is added where d has no bit b, then what
+  -- a walk adds to both, then u once more
+  pub own-level : (l x u correction : ℕ) → l + b + 1 ≡ k → x ≡ sumTo l withBit → u ≡ bitXor correction (sumTo l allOf)
+      → bitXor (bitXor (bitXor x ((1 - bitOf d b) * u)) (withBit l)) (bitXor u (allOf l)) ≡ bitXor (sumTo (suc l) counted) (bitOf d b * correction)
+  unfolding sumTo
+  own-level l x u correction e qx qu =
+      ap (λ (y : ℕ). bitXor y (bitXor u a))
+      (ap (bitXor (bitXor x ((1 - p) * u))) (no-leaf (k - 1 - l) b (node l) g (omega arith)) ∙ xor-zero-r (bitXor x ((1 - p) * u)))
+      ∙ settle p x u a (bit-lt d b)
+      ∙ ap₂ (λ (y z : ℕ). bitXor (bitXor y (p * z)) a) qx (qu ∙ xor-comm correction (sumTo l allOf))
+      ∙ ap (λ (y : ℕ). bitXor (bitXor (sumTo l withBit) y) a) (scale-xor p (sumTo l allOf) correction (bit-lt d b))
+      ∙ ap (λ (y : ℕ). bitXor y a)
+      (sym (xor-assoc (sumTo l withBit) (p * sumTo l allOf) (p * correction))
+      ∙ ap (λ (y : ℕ). bitXor y (p * correction)) (sym (before-own l (omega arith))))
+      ∙ xor-assoc (sumTo l counted) (p * correction) a
+      ∙ ap (bitXor (sumTo l counted)) (xor-comm (p * correction) a)
+      ∙ sym (xor-assoc (sumTo l counted) a (p * correction))
+      ∙ ap (λ (y : ℕ). bitXor (bitXor (sumTo l counted) y) (p * correction)) (sym (counted-own l (omega arith) (omega arith)))
+    where
+      p : ℕ
+      p = bitOf d b
+
+      a : ℕ
+      a = allOf l
+
+      -- adding u on the other side and then everywhere leaves it where d has bit b
+      settle : (p x u t : ℕ) → p < 2 → bitXor (bitXor x ((1 - p) * u)) (bitXor u t) ≡ bitXor (bitXor x (p * u)) t
+      settle p x u t lt =
+          digit (λ (p : ℕ). bitXor (bitXor x ((1 - p) * u)) (bitXor u t) ≡ bitXor (bitXor x (p * u)) t)
+          (ap (λ (y : ℕ). bitXor (bitXor x y) (bitXor u t)) (one-mul u)
+          ∙ xor-assoc x u (bitXor u t)
+          ∙ ap (bitXor x) (xor-cancel u t)
+          ∙ sym (ap (λ (y : ℕ). bitXor y t) (ap (bitXor x) (zero-mul u) ∙ xor-zero-r x)))
+          (ap (λ (y : ℕ). bitXor y (bitXor u t)) (ap (bitXor x) (zero-mul u) ∙ xor-zero-r x)
+          ∙ sym (xor-assoc x u t)
+          ∙ ap (λ (y : ℕ). bitXor (bitXor x y) t) (sym (one-mul u))) p lt
+
+  -- the levels after it add nothing
+  pub after-own : (l : ℕ) → l < k → k < l + b + 1 → (counted l ≡ 0) × (withBit l ≡ 0)
+  after-own l lt gt = (counted-above l lt (omega arith), no-leaf (k - 1 - l) b (node l) g (omega arith))
