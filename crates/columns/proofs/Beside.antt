@@ -83,38 +83,38 @@ low-leaves r b y n g h =
     ∙ ap (λ (x : ℕ). bitOf x b) (ap (λ (x : ℕ). x % 2 ^ r) (add-comm (y * 2 ^ r) z) ∙ add-mul-mod-self-right z y (2 ^ r))
     ∙ low-bits z r b h))
 
+-- the ⊕ over the leaves below the sibling of level l: of all, of those whose number within the subtree has bit b, and of those that the
+-- sender's column counts
+abbrev pub allOf : ℕ → (ℕ → List ℕ) → (List ℕ → ℕ) → ℕ → ℕ
+allOf k node g l = sumBelow (k - 1 - l) (node l) 0 (λ y m. g m)
+
+abbrev pub withBit : ℕ → ℕ → (ℕ → List ℕ) → (List ℕ → ℕ) → ℕ → ℕ
+withBit k b node g l = sumBelow (k - 1 - l) (node l) 0 (λ y m. bitOf y b * g m)
+
+abbrev pub counted : ℕ → ℕ → ℕ → (ℕ → List ℕ) → (List ℕ → ℕ) → ℕ → ℕ
+counted k d b node g l = sumBelow (k - 1 - l) (node l) (siblingNumber k d l) (λ y m. bitOf (bitXor y d) b * g m)
+
 module _ (k d b : ℕ) (node : ℕ → List ℕ) (g : List ℕ → ℕ) (h : d < 2 ^ k) where
-  -- the ⊕ over the leaves below the sibling of level l: of all, of those whose number within the subtree has bit b, and of those that the
-  -- sender's column counts
-  abbrev pub allOf : ℕ → ℕ
-  allOf l = sumBelow (k - 1 - l) (node l) 0 (λ y m. g m)
-
-  abbrev pub withBit : ℕ → ℕ
-  withBit l = sumBelow (k - 1 - l) (node l) 0 (λ y m. bitOf y b * g m)
-
-  abbrev pub counted : ℕ → ℕ
-  counted l = sumBelow (k - 1 - l) (node l) (siblingNumber k d l) (λ y m. bitOf (bitXor y d) b * g m)
-
   -- from the sibling's own bit on, all leaves have the bit or none
-  from-own : (l : ℕ) → l < k → k - 1 - l ≤ b → counted l ≡ bitOf 1 (b - (k - 1 - l)) * allOf l
+  from-own : (l : ℕ) → l < k → k - 1 - l ≤ b → counted k d b node g l ≡ bitOf 1 (b - (k - 1 - l)) * allOf k node g l
   from-own l lt le =
       sum-same (k - 1 - l) (node l) (siblingNumber k d l) (λ y m. bitOf (bitXor y d) b * g m) (λ y m. bitOf 1 (b - (k - 1 - l)) * g m)
       (λ y m q. ap (λ (x : ℕ). x * g m) (leaf-bit k d l b y h lt le q))
       ∙ sum-times (k - 1 - l) (node l) (siblingNumber k d l) (bitOf 1 (b - (k - 1 - l))) (λ y m. g m) (bit-lt 1 (b - (k - 1 - l)))
       ∙ ap (λ (x : ℕ). bitOf 1 (b - (k - 1 - l)) * x) (sum-number (k - 1 - l) (node l) (siblingNumber k d l) 0 g)
 
-  pub counted-above : (l : ℕ) → l < k → k - 1 - l < b → counted l ≡ 0
+  pub counted-above : (l : ℕ) → l < k → k - 1 - l < b → counted k d b node g l ≡ 0
   counted-above l lt gt =
       from-own l lt (omega arith)
-      ∙ ap (λ (x : ℕ). x * allOf l) (one-bit (b - (k - 1 - l)) (omega arith))
-      ∙ zero-mul (allOf l)
+      ∙ ap (λ (x : ℕ). x * allOf k node g l) (one-bit (b - (k - 1 - l)) (omega arith))
+      ∙ zero-mul (allOf k node g l)
 
-  pub counted-own : (l : ℕ) → l < k → k - 1 - l ≡ b → counted l ≡ allOf l
+  pub counted-own : (l : ℕ) → l < k → k - 1 - l ≡ b → counted k d b node g l ≡ allOf k node g l
   counted-own l lt e =
       let none : b - (k - 1 - l) ≡ 0 = omega arith in
-      from-own l lt (omega arith) ∙ ap (λ (i : ℕ). bitOf 1 i * allOf l) none ∙ one-mul (allOf l)
+      from-own l lt (omega arith) ∙ ap (λ (i : ℕ). bitOf 1 i * allOf k node g l) none ∙ one-mul (allOf k node g l)
 
-  pub counted-below : (l : ℕ) → b < k - 1 - l → counted l ≡ bitXor (withBit l) (bitOf d b * allOf l)
+  pub counted-below : (l : ℕ) → b < k - 1 - l → counted k d b node g l ≡ bitXor (withBit k b node g l) (bitOf d b * allOf k node g l)
   counted-below l lt =
       sum-same (k - 1 - l) (node l) (siblingNumber k d l) (λ y m. bitOf (bitXor y d) b * g m)
       (λ y m. bitXor (bitOf y b * g m) (bitOf d b * g m))
@@ -128,38 +128,51 @@ module _ (k d b : ℕ) (node : ℕ → List ℕ) (g : List ℕ → ℕ) (h : d <
   -- ---- the levels one after the other
 
   -- those before the column's own
-  before-own : (l : ℕ) → l + b < k → sumTo l counted ≡ bitXor (sumTo l withBit) (bitOf d b * sumTo l allOf)
+  before-own : (l : ℕ) → l + b < k
+      → sumTo l (counted k d b node g) ≡ bitXor (sumTo l (withBit k b node g)) (bitOf d b * sumTo l (allOf k node g))
   unfolding sumTo
   before-own zero lt = sym (ap (bitXor 0) (mul-zero (bitOf d b)))
   before-own (suc l) lt =
+      let all : ℕ = sumTo l (allOf k node g) in
+      let some : ℕ = sumTo l (withBit k b node g) in
       ap₂ bitXor (before-own l (omega arith)) (counted-below l (omega arith))
-      ∙ xor-swap (sumTo l withBit) (bitOf d b * sumTo l allOf) (withBit l) (bitOf d b * allOf l)
-      ∙ ap (bitXor (bitXor (sumTo l withBit) (withBit l))) (sym (scale-xor (bitOf d b) (sumTo l allOf) (allOf l) (bit-lt d b)))
+      ∙ xor-swap some (bitOf d b * all) (withBit k b node g l) (bitOf d b * allOf k node g l)
+      ∙ ap (bitXor (bitXor some (withBit k b node g l))) (sym (scale-xor (bitOf d b) all (allOf k node g l) (bit-lt d b)))
 
   -- its own, level l. The column x had those with bit b so far, u the correction and all so far: u is added where d has no bit b, then what
   -- a walk adds to both, then u once more
-  pub own-level : (l x u correction : ℕ) → l + b + 1 ≡ k → x ≡ sumTo l withBit → u ≡ bitXor correction (sumTo l allOf)
-      → bitXor (bitXor (bitXor x ((1 - bitOf d b) * u)) (withBit l)) (bitXor u (allOf l)) ≡ bitXor (sumTo (suc l) counted) (bitOf d b * correction)
+  pub own-level : (l x u correction : ℕ) → l + b + 1 ≡ k → x ≡ sumTo l (withBit k b node g) → u ≡ bitXor correction (sumTo l (allOf k node g))
+      → bitXor (bitXor (bitXor x ((1 - bitOf d b) * u)) (withBit k b node g l)) (bitXor u (allOf k node g l))
+      ≡ bitXor (sumTo (suc l) (counted k d b node g)) (bitOf d b * correction)
   unfolding sumTo
   own-level l x u correction e qx qu =
-      ap (λ (y : ℕ). bitXor y (bitXor u a))
+      ap (λ (y : ℕ). bitXor y (bitXor u here))
       (ap (bitXor (bitXor x ((1 - p) * u))) (no-leaf (k - 1 - l) b (node l) g (omega arith)) ∙ xor-zero-r (bitXor x ((1 - p) * u)))
-      ∙ settle p x u a (bit-lt d b)
-      ∙ ap₂ (λ (y z : ℕ). bitXor (bitXor y (p * z)) a) qx (qu ∙ xor-comm correction (sumTo l allOf))
-      ∙ ap (λ (y : ℕ). bitXor (bitXor (sumTo l withBit) y) a) (scale-xor p (sumTo l allOf) correction (bit-lt d b))
-      ∙ ap (λ (y : ℕ). bitXor y a)
-      (sym (xor-assoc (sumTo l withBit) (p * sumTo l allOf) (p * correction))
-      ∙ ap (λ (y : ℕ). bitXor y (p * correction)) (sym (before-own l (omega arith))))
-      ∙ xor-assoc (sumTo l counted) (p * correction) a
-      ∙ ap (bitXor (sumTo l counted)) (xor-comm (p * correction) a)
-      ∙ sym (xor-assoc (sumTo l counted) a (p * correction))
-      ∙ ap (λ (y : ℕ). bitXor (bitXor (sumTo l counted) y) (p * correction)) (sym (counted-own l (omega arith) (omega arith)))
+      ∙ settle p x u here (bit-lt d b)
+      ∙ ap₂ (λ (y z : ℕ). bitXor (bitXor y (p * z)) here) qx (qu ∙ xor-comm correction all)
+      ∙ ap (λ (y : ℕ). bitXor (bitXor some y) here) (scale-xor p all correction (bit-lt d b))
+      ∙ ap (λ (y : ℕ). bitXor y here)
+      (sym (xor-assoc some (p * all) (p * correction)) ∙ ap (λ (y : ℕ). bitXor y (p * correction)) (sym (before-own l (omega arith))))
+      ∙ xor-assoc sum (p * correction) here
+      ∙ ap (bitXor sum) (xor-comm (p * correction) here)
+      ∙ sym (xor-assoc sum here (p * correction))
+      ∙ ap (λ (y : ℕ). bitXor (bitXor sum y) (p * correction)) (sym (counted-own l (omega arith) (omega arith)))
     where
       p : ℕ
       p = bitOf d b
 
-      a : ℕ
-      a = allOf l
+      -- what this level and those before it give
+      here : ℕ
+      here = allOf k node g l
+
+      all : ℕ
+      all = sumTo l (allOf k node g)
+
+      some : ℕ
+      some = sumTo l (withBit k b node g)
+
+      sum : ℕ
+      sum = sumTo l (counted k d b node g)
 
       -- adding u on the other side and then everywhere leaves it where d has bit b
       settle : (p x u t : ℕ) → p < 2 → bitXor (bitXor x ((1 - p) * u)) (bitXor u t) ≡ bitXor (bitXor x (p * u)) t
@@ -174,5 +187,5 @@ module _ (k d b : ℕ) (node : ℕ → List ℕ) (g : List ℕ → ℕ) (h : d <
           ∙ ap (λ (y : ℕ). bitXor (bitXor x y) t) (sym (one-mul u))) p lt
 
   -- the levels after it add nothing
-  pub after-own : (l : ℕ) → l < k → k < l + b + 1 → (counted l ≡ 0) × (withBit l ≡ 0)
+  pub after-own : (l : ℕ) → l < k → k < l + b + 1 → (counted k d b node g l ≡ 0) × (withBit k b node g l ≡ 0)
   after-own l lt gt = (counted-above l lt (omega arith), no-leaf (k - 1 - l) b (node l) g (omega arith))
