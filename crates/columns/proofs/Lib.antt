@@ -1,3 +1,5 @@
 -- The laws that other crates cite.
 pub mod Beside
 pub mod Reached
+pub mod Tables
+pub mod Honest

@@ -1,6 +1,6 @@
 -- The sender's columns of four trees side by side, level by level. Word w of lane l stands at 4w + l; d l is the number of the tree in
 -- lane l. Assumes nothing.
-use mathlib.Core.Path.{_≡_, refl, sym, ap, ap₂, _∙_, subst}
+use mathlib.Core.Path.{_≡_, sym, ap, ap₂, _∙_, subst}
 use mathlib.Core.List.{List}
 use Prim.Native.Nat.{ℕ, zero, suc, _+_, _-_, _*_, _/_, _%_, _^_, _≤_, _<_}
 use native.Mathlib.Omega.{arith}
@@ -195,3 +195,95 @@ module _ (k batch n : ℕ) (d : ℕ → ℕ) (s u0 sides : List ℕ) (level : �
           (λ (c : ℕ). getD v′ (c * n + i) 0 ≡ bitXor (countedTo k batch d s (level + 1) c i) (bitOf (d (i % 4)) c * getD u0 i 0)) (sym e)
           (settled i h)
       here b i h hb le (no ne) = kept b i h hb (omega arith)
+
+-- ---- after all levels, one lane as bytes
+
+-- a byte of a sum of words
+sum-bytes : (l : ℕ) (f : ℕ → ℕ) (c : ℕ) → getD (bytes 4 (sumTo l f)) c 0 ≡ sumTo l (λ i. getD (bytes 4 (f i)) c 0)
+unfolding sumTo
+sum-bytes zero f c = bytes-zero 4 c
+sum-bytes (suc l) f c = bytes-xor 4 (sumTo l f) (f l) c ∙ ap (λ (x : ℕ). bitXor x (getD (bytes 4 (f l)) c 0)) (sum-bytes l f c)
+
+-- the node of level l in lane i is that part of the lane's bytes
+lane-node : (k i l : ℕ) (s : List ℕ) → i < 4 → l < k → keyIn i (part (32 * l) 32 s) ≡ part (32 * l) 32 (laneBytes i (8 * k) s)
+unfolding keyIn
+lane-node k i l s hi lt =
+    ext-getD 0 (laneBytes i 8 (part (32 * l) 32 s)) (part (32 * l) 32 (laneBytes i (8 * k) s))
+    (laneBytes-length i 8 (part (32 * l) 32 s)
+    ∙ sym (part-length (32 * l) 32 (laneBytes i (8 * k) s) (omega (arith, laneBytes-length i (8 * k) s))))
+    (λ b h. at b (omega (arith, laneBytes-length i 8 (part (32 * l) 32 s))))
+  where
+    at : (b : ℕ) → b < 32 → getD (laneBytes i 8 (part (32 * l) 32 s)) b 0 ≡ getD (part (32 * l) 32 (laneBytes i (8 * k) s)) b 0
+    at b h =
+        let word : 32 * l + (4 * (b / 4) + i) ≡ 4 * ((32 * l + b) / 4) + i = omega arith in
+        let byte : b % 4 ≡ (32 * l + b) % 4 = omega arith in
+        laneBytes-at i 8 (part (32 * l) 32 s) b h
+        ∙ ap (λ (w : ℕ). getD (bytes 4 w) (b % 4) 0) (part-at (32 * l) 32 s (4 * (b / 4) + i) (omega arith))
+        ∙ ap₂ (λ (p q : ℕ). getD (bytes 4 (getD s p 0)) q 0) word byte
+        ∙ sym (laneBytes-at i (8 * k) s (32 * l + b) (omega arith))
+        ∙ sym (part-at (32 * l) 32 (laneBytes i (8 * k) s) b h)
+
+module _ (k batch n len : ℕ) (d : ℕ → ℕ) (s u0 u v : List ℕ) (sibs corr : List ℕ) (i b : ℕ) (hi : i < 4) (hb : b < k)
+    (whole : len % 4 ≡ 0) (fits : len ≤ n) (siblings : laneBytes i (8 * k) s ≡ sibs) (r : Reached k batch n d s u0 k u v) where
+  -- what is counted, at byte x
+  counted-byte : (x : ℕ)
+      → getD (bytes 4 (sumTo k (counted k (d i) b (λ l. keyIn i (part (32 * l) 32 s)) (streamWord batch (x / 4))))) (x % 4) 0
+      ≡ besideAt k sibs (d i) (λ y leaf. streamByte batch x leaf) b
+  unfolding besideAt
+  counted-byte x =
+      sum-bytes k (counted k (d i) b (λ l. keyIn i (part (32 * l) 32 s)) (streamWord batch (x / 4))) (x % 4)
+      ∙ sumTo-same k
+      (λ l. getD (bytes 4 (counted k (d i) b (λ l. keyIn i (part (32 * l) 32 s)) (streamWord batch (x / 4)) l)) (x % 4) 0)
+      (λ l. sumBelow (k - 1 - l) (part (32 * l) 32 sibs) (siblingNumber k (d i) l) (λ y leaf. bitOf (bitXor y (d i)) b * streamByte batch x leaf))
+      (λ l lt.
+      sym (sum-map (λ w. getD (bytes 4 w) (x % 4) 0) (λ p q. bytes-xor 4 p q (x % 4)) (k - 1 - l) (keyIn i (part (32 * l) 32 s))
+      (siblingNumber k (d i) l) (λ y leaf. bitOf (bitXor y (d i)) b * streamWord batch (x / 4) leaf))
+      ∙ sum-same (k - 1 - l) (keyIn i (part (32 * l) 32 s)) (siblingNumber k (d i) l)
+      (λ y leaf. getD (bytes 4 (bitOf (bitXor y (d i)) b * streamWord batch (x / 4) leaf)) (x % 4) 0)
+      (λ y leaf. bitOf (bitXor y (d i)) b * streamByte batch x leaf)
+      (λ y leaf q.
+      bytes-scale 4 (bitOf (bitXor y (d i)) b) (streamWord batch (x / 4) leaf) (x % 4) (bit-lt (bitXor y (d i)) b)
+      ∙ ap (λ (z : ℕ). bitOf (bitXor y (d i)) b * z) (sym (stream-byte batch x leaf)))
+      ∙ ap (λ (m : List ℕ). sumBelow (k - 1 - l) m (siblingNumber k (d i) l) (λ y leaf. bitOf (bitXor y (d i)) b * streamByte batch x leaf))
+      (lane-node k i l s hi lt ∙ ap (part (32 * l) 32) siblings))
+
+  -- u0 need have the correction only where the column is: lanes of zeros are the lanes of a tree that has none
+  pub reached-column-at : ((x : ℕ) → x < len → getD (laneBytes i (len / 4) u0) x 0 ≡ getD corr x 0)
+      → laneBytes i (len / 4) (part (b * n) len v) ≡ senderColumn k batch len sibs (d i) corr b
+  unfolding senderColumn
+  reached-column-at same =
+      ext-getD 0 (laneBytes i (len / 4) (part (b * n) len v)) (senderColumn k batch len sibs (d i) corr b)
+      (long ∙ sym (tabulate-length len byte))
+      (λ x h. at x (omega (arith, long)))
+    where
+      byte : ℕ → ℕ
+      byte x = bitXor (besideAt k sibs (d i) (λ y leaf. streamByte batch x leaf) b) (bitOf (d i) b * getD corr x 0)
+
+      long : length (laneBytes i (len / 4) (part (b * n) len v)) ≡ len
+      long = laneBytes-length i (len / 4) (part (b * n) len v) ∙ omega arith
+
+      -- the word at place p, if that is word j of lane c
+      word : ℕ → ℕ → ℕ → ℕ
+      word p c j =
+          bitXor (sumTo k (counted k (d c) b (λ l. keyIn c (part (32 * l) 32 s)) (streamWord batch j))) (bitOf (d c) b * getD u0 p 0)
+
+      at : (x : ℕ) → x < len → getD (laneBytes i (len / 4) (part (b * n) len v)) x 0 ≡ getD (senderColumn k batch len sibs (d i) corr b) x 0
+      at x h =
+          let p : ℕ = 4 * (x / 4) + i in
+          let lane : (4 * (x / 4) + i) % 4 ≡ i = omega arith in
+          let place : (4 * (x / 4) + i) / 4 ≡ x / 4 = omega arith in
+          let sum : ℕ = sumTo k (counted k (d i) b (λ l. keyIn i (part (32 * l) 32 s)) (streamWord batch (x / 4))) in
+          laneBytes-at i (len / 4) (part (b * n) len v) x (omega arith)
+          ∙ ap (λ (w : ℕ). getD (bytes 4 w) (x % 4) 0)
+          (part-at (b * n) len v (4 * (x / 4) + i) (omega arith)
+          ∙ r .done b (4 * (x / 4) + i) (omega arith) hb (omega arith)
+          ∙ ap₂ (λ (c j : ℕ). word p c j) lane place)
+          ∙ bytes-xor 4 sum (bitOf (d i) b * getD u0 p 0) (x % 4)
+          ∙ ap₂ bitXor (counted-byte x)
+          (bytes-scale 4 (bitOf (d i) b) (getD u0 p 0) (x % 4) (bit-lt (d i) b)
+          ∙ ap (λ (z : ℕ). bitOf (d i) b * z) (sym (laneBytes-at i (len / 4) u0 x (omega arith)) ∙ same x h))
+          ∙ sym (tabulate-at len byte x h)
+
+  pub reached-column : laneBytes i (len / 4) u0 ≡ corr
+      → laneBytes i (len / 4) (part (b * n) len v) ≡ senderColumn k batch len sibs (d i) corr b
+  reached-column same = reached-column-at (λ x h. ap (λ (l : List ℕ). getD l x 0) same)
