@@ -3,3 +3,4 @@ pub mod Beside
 pub mod Reached
 pub mod Tables
 pub mod Honest
+pub mod Masked

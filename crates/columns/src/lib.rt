@@ -1,1 +1,2 @@
-// columns
+// The columns of a batch.
+pub mod sender;
