@@ -1,4 +1,5 @@
 -- The laws that other crates cite.
+pub mod Layouts
 pub mod Beside
 pub mod Reached
 pub mod Tables

@@ -1,2 +1,3 @@
 // The columns of a batch.
+mod lanes;
 pub mod sender;
