@@ -5,3 +5,4 @@ pub mod Reached
 pub mod Tables
 pub mod Honest
 pub mod Masked
+pub mod Groups

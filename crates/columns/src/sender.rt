@@ -1,12 +1,18 @@
 // The sender's table, four trees at a time. Delta enters as a side for each base transfer, and a side as a mask: never a branch or an
 // address.
+use crate::lanes;
 ghost use mathlib.Core.Path.{_≡_};
-ghost use Prim.Native.Nat.{ℕ, _+_, _-_, _*_, _%_, _≤_, _<_};
+ghost use mathlib.Core.Bool.{true};
+ghost use Prim.Native.Nat.{ℕ, _+_, _-_, _*_, _/_, _%_, _≤_, _<_};
 ghost use lib.ListN.{length, getD};
-ghost use Rattle.words.specs.Bytes.{tabulate, part};
+ghost use Rattle.words.specs.Bytes.{tabulate, part, concat};
 ghost use Rattle.words.specs.Xor.{xorEach, xorPart};
 ghost use Rattle.tree.specs.Lanes.{uWord, columnWord};
+ghost use Rattle.tree.specs.Layout.{columns, treesOf, treePart};
 ghost use Rattle.tree.specs.Sides.{Sides};
+ghost use Rattle.answer.specs.Answer.{widthAllowed};
+ghost use Rattle.columns.specs.Columns.{senderColumn, senderTable, treeCorrection};
+ghost use Rattle.columns.specs.Lanes.{SidesAre, SenderLanes};
 
 // Adds u to v in the lanes whose side is 1.
 fn add_where(v: &mut [u32], u: &[u32], sides: [u8; 4])
@@ -29,7 +35,15 @@ fn add_where(v: &mut [u32], u: &[u32], sides: [u8; 4])
 
 // One level of four trees of k levels. The leaves below the sibling made there are those that part from delta's path at bit r. Each of them
 // has bit r of y ⊕ delta_i, so what u gains goes to column r; and u as it was before goes there where delta has the bit.
-fn level(k: usize, level: usize, batch: u32, sides: &[u8], s: &[u32], u: &mut [u32], v: &mut [u32])
+fn add_level(
+    k: usize,
+    level: usize,
+    batch: u32,
+    sides: &[u8],
+    s: &[u32],
+    u: &mut [u32],
+    v: &mut [u32],
+)
     requires { ⌜ (level < k) × (k ≤ 8) × (length (now sides) ≡ 4 * k) × Sides (now sides) × (length (now s) ≡ 32 * k) ⌝ }
     requires { ⌜ (length (now u) % 64 ≡ 0) × (length (now u) ≤ 512) × (0 < length (now u)) × (length (now v) ≡ k * length (now u)) ⌝ }
     ensures { λ _. ⌜ now (u .exit) ≡ xorEach (now (u .entry)) (uWord batch (k - 1 - level) (part (32 * level) 32 (now (s .entry)))) ⌝ }
@@ -41,4 +55,65 @@ fn level(k: usize, level: usize, batch: u32, sides: &[u8], s: &[u32], u: &mut [u
     add_where(&mut v[at..end], u, tree::side::of_four(k, level, sides));
     tree::walk(&tree::nodes_at(s, 32 * level), r, batch, u, v);
     tree::add_column(v, r, u);
+}
+
+// All levels of four trees of k levels, from their siblings in s. u has the corrections, and v is zero.
+fn add_levels(k: usize, batch: u32, sides: &[u8], s: &[u32], u: &mut [u32], v: &mut [u32])
+    requires { ⌜ (k ≤ 8) × (length (now sides) ≡ 4 * k) × Sides (now sides) × (length (now s) ≡ 32 * k) ⌝ }
+    requires { ⌜ (length (now u) % 64 ≡ 0) × (length (now u) ≤ 512) × (0 < length (now u)) × (length (now v) ≡ k * length (now u)) × ((i : ℕ) → getD (now v) i 0 ≡ 0) ⌝ }
+    ensures { λ _. ⌜ ((d : ℕ → ℕ) → SidesAre k (now (sides .entry)) d → SenderLanes k batch (length (now (u .entry))) d (now (s .entry)) (now (u .entry)) (now (v .exit))) ⌝ }
+{
+    let mut level = 0;
+    while level < k {
+        add_level(k, level, batch, sides, s, u, v);
+        level += 1;
+    }
+}
+
+// The columns of four trees of k levels, from their sides, siblings and corrections. s, u and v are room to work in, whatever they hold.
+fn four_trees(
+    k: usize,
+    len: usize,
+    batch: u32,
+    sides: &[u8],
+    siblings: &[u8],
+    correction: &[u8],
+    s: &mut [u32],
+    u: &mut [u32],
+    v: &mut [u32],
+    table: &mut [u8],
+)
+    requires { ⌜ (k ≤ 8) × (length (now sides) ≡ 4 * k) × Sides (now sides) × (length (now siblings) ≡ 4 * (32 * k)) × (length (now correction) ≡ 4 * len) × (length (now table) ≡ 4 * (k * len)) ⌝ }
+    requires { ⌜ (length (now s) ≡ 32 * k) × (length (now u) % 64 ≡ 0) × (length (now u) ≤ 128) × (0 < length (now u)) × (length (now v) ≡ k * length (now u)) × (len ≤ length (now u)) × (len % 4 ≡ 0) ⌝ }
+    ensures { λ _. ⌜ ((d : ℕ → ℕ) → SidesAre k (now (sides .entry)) d → now (table .exit) ≡ concat 4 (λ i. concat k (senderColumn k batch len (treePart k 32 i (now (siblings .entry))) (d i) (part (i * len) len (now (correction .entry)))))) ⌝ }
+{
+    words::clear(u);
+    words::clear(v);
+    words::load_lanes(&mut u[0..len], correction);
+    words::load_lanes(s, siblings);
+    add_levels(k, batch, sides, s, u, v);
+    lanes::store_trees(k, len, u.len(), v, table);
+}
+
+// The same for the first four, of which tree 0 has no correction.
+fn first_trees(
+    k: usize,
+    len: usize,
+    batch: u32,
+    sides: &[u8],
+    siblings: &[u8],
+    correction: &[u8],
+    s: &mut [u32],
+    u: &mut [u32],
+    v: &mut [u32],
+    table: &mut [u8],
+)
+    requires { ⌜ (k ≤ 8) × (length (now sides) ≡ 4 * k) × Sides (now sides) × (length (now siblings) ≡ 4 * (32 * k)) × (length (now correction) ≡ 3 * len) × (length (now table) ≡ 4 * (k * len)) ⌝ }
+    requires { ⌜ (length (now s) ≡ 32 * k) × (length (now u) % 64 ≡ 0) × (length (now u) ≤ 128) × (0 < length (now u)) × (length (now v) ≡ k * length (now u)) × (len ≤ length (now u)) × (len % 4 ≡ 0) ⌝ }
+    ensures { λ _. ⌜ ((d : ℕ → ℕ) → SidesAre k (now (sides .entry)) d → now (table .exit) ≡ concat 4 (λ i. concat k (senderColumn k batch len (treePart k 32 i (now (siblings .entry))) (d i) (treeCorrection len (now (correction .entry)) i)))) ⌝ }
+{
+    let mut all = [0u8; 512];
+    words::copy_part(&mut all, len, correction);
+    let end = 4 * len;
+    four_trees(k, len, batch, sides, siblings, &all[0..end], s, u, v, table);
 }

@@ -1,4 +1,4 @@
--- `columns::sender::level` meets its contract: the three additions, one after the other. Assumes nothing.
+-- `columns::sender::add_level` meets its contract: the three additions, one after the other. Assumes nothing.
 use mathlib.Core.Path.{_≡_, refl, ap, ap₂, _∙_}
 use mathlib.Core.List.{List}
 use denote.Ref.{now}
@@ -12,8 +12,8 @@ use Rattle.words.specs.Xor.{xorEach, xorPart}
 use Rattle.tree.specs.Lanes.{uWord, columnWord}
 use Rattle.words.proofs.Concat.{place-fits}
 use Rattle.words.proofs.Lists.{part-added, tabulate-lt, xorEach-length, xorPart-length}
-use Rattle.columns.proofs.sender.level.Statement.{statement}
-use Rattle.columns.proofs.sender.level.Tie as tie
+use Rattle.columns.proofs.sender.add_level.Statement.{statement}
+use Rattle.columns.proofs.sender.add_level.Tie as tie
 
 -- word i of u where its lane's side at a level is 1
 abbrev ofSide : ℕ → ℕ → List ℕ → List ℕ → ℕ → ℕ
@@ -148,8 +148,8 @@ returns c =
     let r : ℕ = s .args .k - 1 - s .args .level in
     (w .0, c .before .before .add-column .ensures ∙ ap₂ (λ (n : ℕ) (z : List ℕ). xorPart z (r * n) n (λ i. getD (c .before .before .before .before .before .before .before .before .before .walk .last .1 .1 .1 .0) i 0)) (w .1) (w .2))
 
-pub level-spec : {M : Type 1} → statement M
-level-spec =
+pub add-level-spec : {M : Type 1} → statement M
+add-level-spec =
     tie.close
     (tie.spec
     sub-r
