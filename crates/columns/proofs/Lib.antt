@@ -6,3 +6,4 @@ pub mod Tables
 pub mod Honest
 pub mod Masked
 pub mod Groups
+pub mod Starts

@@ -110,14 +110,15 @@ loop-again c =
     let a : ℕ = w .b * len in
     let from : ℕ = w .b * s .args .stride in
     let f : ℕ → List ℕ = λ b. laneBytes l (len / 4) (part (b * s .args .stride) len v) in
-    let size : length (f (w .b)) ≡ len = laneBytes-length l (len / 4) (part from len v) ∙ omega (arith, s .pre .0) in
+    let four : 4 * (len / 4) ≡ len = omega (arith, s .pre .0) in
     let long : _ ≡ len = mid-len a (a + len) (w .out) (omega (arith, here)) ∙ omega arith in
     let whole : from + len - from ≡ len = omega arith in
     let stored : _ ≡ f (w .b) =
     c .before .before .store-lane .ensures
     ∙ ap (λ (m : ℕ). laneBytes l (m / 4) (part from (from + len - from) v)) long
     ∙ ap (λ (m : ℕ). laneBytes l (len / 4) (part from m v)) whole in
-    filled-one (s .args .k) len f (w .b) (w .out) _ stored size (c .before .before .before .before .before .loop-test .taken) (here .3) (w .inv)
+    filled-one (s .args .k) len f (w .b) (w .out) _ stored (λ b h. laneBytes-length l (len / 4) (part (b * s .args .stride) len v) ∙ four)
+    (c .before .before .before .before .before .loop-test .taken) (w .inv)
 
 same-length : tie.Need-same-length Inv-loop μ-loop
 same-length c = c .before .loop .inv .len ∙ sym (c .before .before .before .before .pre .1 .1)

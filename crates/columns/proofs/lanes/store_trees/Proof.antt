@@ -80,16 +80,16 @@ loop-again : tie.Need-loop-again Inv-loop μ-loop
 loop-again c =
     let s = c .before .before .before .before .before .before .before .before in
     let w = c .before .before .before .before .before .loop in
-    let here = room (c .before .before .before .before) in
     let k = s .args .k in
     let len = s .args .len in
     let v = s .args .v .now in
     let f : ℕ → List ℕ = λ l. concat k (λ b. laneBytes l (len / 4) (part (b * s .args .stride) len v)) in
     let four : 4 * (len / 4) ≡ len = omega (arith, s .pre .0 .3) in
-    let size : length (f (w .l)) ≡ k * len =
-    concat-length (λ b. laneBytes (w .l) (len / 4) (part (b * s .args .stride) len v)) len k
-    (λ b h. laneBytes-length (w .l) (len / 4) (part (b * s .args .stride) len v) ∙ four) in
-    filled-one 4 (k * len) f (w .l) (w .out) _ (c .before .before .store-tree .ensures) size (c .before .before .before .before .loop-test .taken) (here .1) (w .inv)
+    filled-one 4 (k * len) f (w .l) (w .out) _ (c .before .before .store-tree .ensures)
+    (λ l h.
+    concat-length (λ b. laneBytes l (len / 4) (part (b * s .args .stride) len v)) len k
+    (λ b h. laneBytes-length l (len / 4) (part (b * s .args .stride) len v) ∙ four))
+    (c .before .before .before .before .loop-test .taken) (w .inv)
 
 same-length : tie.Need-same-length Inv-loop μ-loop
 same-length c = c .before .loop .inv .len ∙ sym (c .before .before .before .before .pre .1 .1)
