@@ -10,9 +10,9 @@ use lib.ListN.{length, getD, take, drop, replicate, length-replicate, length-app
 use lib.Seq.{ext-getD, getD-take, take-at, drop-at}
 use Rattle.words.specs.Bytes.{bytes, part, tabulate, concat, put}
 use Rattle.words.specs.Lanes.{laneBytes}
-use Rattle.words.specs.Xor.{xorEach}
+use Rattle.words.specs.Xor.{xorEach, xorList}
 use Rattle.words.proofs.Lists.{tabulate-length, tabulate-at, zeros-at, xorEach-at}
-use Rattle.words.proofs.Concat.{place-fits, part-at, part-part, place-part, concat-same, concat-add, concat-length}
+use Rattle.words.proofs.Concat.{place-fits, part-at, part-part, place-part, concat-same, concat-add, concat-length, concat-part}
 use Rattle.words.proofs.LaneBytes.{laneBytes-length, laneBytes-at}
 use Rattle.chacha20.specs.Lanes.{keyIn}
 use Rattle.tree.specs.Tree.{streamByte}
@@ -214,3 +214,16 @@ later-others f roots n e =
   where
     next : (i : ℕ) → 4 + i ≡ suc (3 + i)
     next i = omega arith
+
+-- ---- the choices are added to n sums u
+
+pub corrected : (n len : ℕ) (f : ℕ → List ℕ) → ((i : ℕ) → length (f i) ≡ len) → (choices correction u₀ : List ℕ) → choices ≡ u₀ → length u₀ ≡ len
+    → correction ≡ concat n f
+    → concat n (λ i. xorList (part (i * length choices) (length choices) correction) choices) ≡ concat n (λ i. xorList (f i) u₀)
+corrected n len f each choices correction u₀ chosen long sums =
+    concat-same n (λ i. xorList (part (i * length choices) (length choices) correction) choices) (λ i. xorList (f i) u₀)
+    (λ i h.
+    ap (λ (m : ℕ). xorList (part (i * m) m correction) choices) (ap length chosen ∙ long)
+    ∙ ap (λ (l : List ℕ). xorList (part (i * len) len l) choices) sums
+    ∙ ap (λ (l : List ℕ). xorList l choices) (concat-part f len n (λ j lt. each j) i h)
+    ∙ ap (λ (l : List ℕ). xorList (f i) l) chosen)

@@ -125,3 +125,78 @@ fn add_choices(n: usize, choices: &[u8], correction: &mut [u8])
         i += 1;
     }
 }
+
+// All trees. What is left in the correction are the sums u, without the choices.
+fn all_trees(
+    k: usize,
+    batch: u32,
+    roots: &[u8],
+    u: &mut [u32],
+    v: &mut [u32],
+    choices: &mut [u8],
+    table: &mut [u8],
+    correction: &mut [u8],
+)
+    requires { ⌜ (widthAllowed k ≡ true) × (length (now choices) % 4 ≡ 0) × (0 < length (now choices)) × (length (now u) % 64 ≡ 0) × (length (now u) ≤ 128) × (length (now choices) ≤ length (now u)) × (length (now v) ≡ k * length (now u)) ⌝ }
+    requires { ⌜ (length (now roots) ≡ 32 * treesOf k) × (length (now table) ≡ 128 * length (now choices)) × (length (now correction) ≡ (treesOf k - 1) * length (now choices)) ⌝ }
+    ensures { λ _. ⌜ now (choices .exit) ≡ choicesOf k batch (length (now (choices .entry))) (now (roots .entry)) ⌝ }
+    ensures { λ _. ⌜ now (table .exit) ≡ receiverTable k batch (length (now (choices .entry))) (now (roots .entry)) ⌝ }
+    ensures { λ _. ⌜ now (correction .exit) ≡ concat (treesOf k - 1) (λ i. uOf k batch (length (now (choices .entry))) (rootOf (now (roots .entry)) (suc i))) ⌝ }
+{
+    let len = choices.len();
+    let cut = 3 * len;
+    let end = 4 * (k * len);
+    first_trees(
+        k,
+        batch,
+        &roots[0..128],
+        u,
+        v,
+        choices,
+        &mut table[0..end],
+        &mut correction[0..cut],
+    );
+    let others = 128 / k - 4;
+    trees(
+        k,
+        others,
+        len,
+        batch,
+        &roots[128..],
+        u,
+        v,
+        &mut correction[cut..],
+        &mut table[end..],
+    );
+}
+
+// The receiver's start: its choices, its table and the correction, from the roots and the number of the batch.
+pub fn start(
+    k: usize,
+    roots: &[u8],
+    batch: u32,
+    choices: &mut [u8],
+    table: &mut [u8],
+    correction: &mut [u8],
+)
+    requires { ⌜ (widthAllowed k ≡ true) × (length (now roots) ≡ 32 * treesOf k) × (length (now choices) % 8 ≡ 0) × (0 < length (now choices)) × (length (now choices) ≤ 128) × (length (now table) ≡ 128 * length (now choices)) × (length (now correction) ≡ (treesOf k - 1) * length (now choices)) ⌝ }
+    ensures { λ _. ⌜ now (choices .exit) ≡ choicesOf k batch (length (now (choices .entry))) (now (roots .entry)) ⌝ }
+    ensures { λ _. ⌜ now (table .exit) ≡ receiverTable k batch (length (now (choices .entry))) (now (roots .entry)) ⌝ }
+    ensures { λ _. ⌜ now (correction .exit) ≡ correctionOf k batch (length (now (choices .entry))) (now (roots .entry)) ⌝ }
+{
+    let room = crate::lanes::room(choices.len());
+    let size = k * room;
+    let mut u = [0u32; 128];
+    let mut v = [0u32; 1024];
+    all_trees(
+        k,
+        batch,
+        roots,
+        &mut u[0..room],
+        &mut v[0..size],
+        choices,
+        table,
+        correction,
+    );
+    add_choices(128 / k - 1, choices, correction);
+}
