@@ -1,1 +1,2 @@
-// pads
+// Rows of a table of columns, and their pads.
+mod rows;
