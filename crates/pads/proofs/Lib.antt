@@ -2,3 +2,4 @@
 pub mod Bits
 pub mod Laws
 pub mod Gathered
+pub mod Inputs

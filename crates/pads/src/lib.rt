@@ -1,2 +1,83 @@
-// Rows of a table of columns, and their pads.
+// Rows of a table of columns, and the pads that are their hashes.
 mod rows;
+
+ghost use mathlib.Core.Path.{_≡_};
+ghost use Prim.Native.Nat.{_+_, _*_, _≤_};
+ghost use lib.ListN.{length};
+ghost use Rattle.words.specs.Bytes.{part, concat};
+ghost use Rattle.tree.specs.Layout.{columnLength};
+ghost use Rattle.pads.specs.Pads.{padInput, padOf, receiverPads};
+
+// The head of each hashed block.
+const LETTERS: [u8; 4] = *b"PADS";
+
+// The 32 bytes that a pad is the hash of.
+fn write_input(out: &mut [u8], batch: u64, row: u32, value: &[u8])
+    requires { ⌜ (length (now out) ≡ 32) × (length (now value) ≡ 16) ⌝ }
+    ensures { λ _. ⌜ now (out .exit) ≡ padInput batch row (now (value .entry)) ⌝ }
+{
+    words::copy_part(out, 0, &LETTERS);
+    words::store64(out, 4, batch);
+    words::store32(out, 12, row);
+    words::copy_part(out, 16, value);
+}
+
+// The inputs of the pads of four rows, from their values.
+fn four_inputs(out: &mut [u8], batch: u64, first: u32, values: &[u8])
+    requires { ⌜ (length (now out) ≡ 128) × (first + 4 ≤ 4294967296) × (length (now values) ≡ 64) ⌝ }
+    ensures { λ _. ⌜ now (out .exit) ≡ concat 4 (λ i. padInput batch (first + i) (part (i * 16) 16 (now (values .entry)))) ⌝ }
+{
+    let mut i = 0;
+    while i < 4 {
+        let next = i + 1;
+        let start = i * 32;
+        let end = next * 32;
+        let from = i * 16;
+        let to = next * 16;
+        write_input(
+            &mut out[start..end],
+            batch,
+            first + (i as u32),
+            &values[from..to],
+        );
+        i = next;
+    }
+}
+
+// The pads of four rows, hashed at once.
+fn four_pads(batch: u64, first: u32, values: &[u8], pads: &mut [u8])
+    requires { ⌜ (first + 4 ≤ 4294967296) × (length (now values) ≡ 64) × (length (now pads) ≡ 128) ⌝ }
+    ensures { λ _. ⌜ now (pads .exit) ≡ concat 4 (λ i. padOf batch (first + i) (part (i * 16) 16 (now (values .entry)))) ⌝ }
+{
+    let mut m = [0u8; 128];
+    four_inputs(&mut m, batch, first, values);
+    let digests = sha256::four::digest(m);
+    words::copy_part(pads, 0, &digests);
+}
+
+// The pads of eight rows.
+fn eight_pads(batch: u64, first: u32, values: &[u8], pads: &mut [u8])
+    requires { ⌜ (first + 8 ≤ 4294967296) × (length (now values) ≡ 128) × (length (now pads) ≡ 256) ⌝ }
+    ensures { λ _. ⌜ now (pads .exit) ≡ concat 8 (λ i. padOf batch (first + i) (part (i * 16) 16 (now (values .entry)))) ⌝ }
+{
+    four_pads(batch, first, &values[0..64], &mut pads[0..128]);
+    four_pads(batch, first + 4, &values[64..128], &mut pads[128..256]);
+}
+
+// The receiver's pads: one for each row of its table, but those of the spent block.
+pub fn receiver_pads(batch: u64, blocks: usize, table: &[u8], pads: &mut [u8])
+    requires { ⌜ (blocks ≤ 15) × (length (now table) ≡ 128 * columnLength blocks) × (length (now pads) ≡ 2048 * blocks) ⌝ }
+    ensures { λ _. ⌜ now (pads .exit) ≡ receiverPads blocks batch (now (table .entry)) ⌝ }
+{
+    let len = 8 * (blocks + 1);
+    let groups = 8 * blocks;
+    let mut at = 0;
+    while at < groups {
+        let next = at + 1;
+        let values = rows::eight_rows(table, len, at);
+        let start = at * 256;
+        let end = next * 256;
+        eight_pads(batch, (8 * at) as u32, &values, &mut pads[start..end]);
+        at = next;
+    }
+}

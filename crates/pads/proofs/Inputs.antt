@@ -1,0 +1,103 @@
+-- Laws of pads: the input of one, written part by part, and four of them hashed at once. Assumes nothing.
+use mathlib.Core.Path.{_≡_, refl, sym, ap, ap₂, _∙_}
+use mathlib.Core.List.{List, [], _++_, append-nil}
+use Prim.Native.Nat.{ℕ, zero, suc, _+_, _-_, _*_, _<_}
+use native.Mathlib.Nat.{mul-comm, add-assoc}
+use native.Mathlib.Omega.{arith}
+use lib.ListN.{length, drop, length-drop}
+use lib.Seq.{drop-length, take-all}
+use borrow.Rule.Slice.PartMut.{putMid}
+use Rattle.words.specs.Bytes.{bytes, part, put, concat}
+use Rattle.words.proofs.Concat.{part-length, place-part, concat-same, concat-length, concat-part, concat-grow}
+use Rattle.sha256.specs.Sha.{digestOf}
+use Rattle.sha256.specs.Four.{joined, digests}
+use Rattle.sha256.proofs.Blocks.{put-next}
+use Rattle.sha256.proofs.Digests.{digest-length}
+use Rattle.pads.specs.Pads.{letters, rowOf, padInput, padOf}
+use Rattle.pads.proofs.Laws.{row-length}
+
+-- ---- one input
+
+pub input-length : (batch j : ℕ) (row : List ℕ) → length row ≡ 16 → length (padInput batch j row) ≡ 32
+unfolding padInput
+input-length batch j row e = omega (arith, e)
+
+pub pad-length : (batch j : ℕ) (row : List ℕ) → length (padOf batch j row) ≡ 32
+unfolding padOf
+pad-length batch j row = digest-length (padInput batch j row)
+
+-- its four parts, laid over 32 bytes one after the other
+pub input-is : (d : List ℕ) (batch j : ℕ) (row : List ℕ) → length d ≡ 32 → length row ≡ 16
+    → put (put (put (put d 0 letters) 4 (bytes 8 batch)) 12 (bytes 4 j)) 16 row ≡ padInput batch j row
+unfolding padInput
+input-is d batch j row e h =
+    let b = bytes 8 batch in
+    let n = bytes 4 j in
+    let rest = drop 4 (drop 8 (drop 4 d)) in
+    let left : length rest ≡ 16 = omega (arith, e, length-drop 4 d, length-drop 8 (drop 4 d), length-drop 4 (drop 8 (drop 4 d))) in
+    let none : drop (length row) rest ≡ [] = ap (λ (k : ℕ). drop k rest) (h ∙ sym left) ∙ drop-length rest in
+    ap (λ (x : List ℕ). put (put (put x 4 b) 12 n) 16 row) (put-next [] d letters 0 refl)
+    ∙ ap (λ (x : List ℕ). put (put x 12 n) 16 row) (put-next letters (drop 4 d) b 4 refl)
+    ∙ ap (λ (x : List ℕ). put x 16 row) (put-next (letters ++ b) (drop 8 (drop 4 d)) n 12 refl)
+    ∙ put-next ((letters ++ b) ++ n) rest row 16 refl
+    ∙ ap (λ (x : List ℕ). (((letters ++ b) ++ n) ++ row) ++ x) none
+    ∙ append-nil (((letters ++ b) ++ n) ++ row)
+
+-- a range that is laid over all of another
+pub put-all : (d s : List ℕ) → length d ≡ length s → put d 0 s ≡ s
+put-all d s e =
+    put-next [] d s 0 refl
+    ∙ ap (λ (x : List ℕ). s ++ x) (ap (λ (k : ℕ). drop k d) (sym e) ∙ drop-length d)
+    ∙ append-nil s
+
+-- ---- four at once
+
+joined-is : (n : ℕ) (f : ℕ → List ℕ) → joined n f ≡ concat n f
+unfolding joined concat
+joined-is zero f = refl
+joined-is (suc n) f = ap (λ (x : List ℕ). x ++ f n) (joined-is n f)
+
+-- the digests of four messages that stand one after the other
+pub digests-are : (f : ℕ → List ℕ) → ((i : ℕ) → i < 4 → length (f i) ≡ 32) → digests (concat 4 f) ≡ concat 4 (λ i. digestOf (f i))
+unfolding digests
+digests-are f each =
+    joined-is 4 (λ i. digestOf (part (32 * i) 32 (concat 4 f)))
+    ∙ concat-same 4 (λ i. digestOf (part (32 * i) 32 (concat 4 f))) (λ i. digestOf (f i))
+    (λ i h. ap digestOf (ap (λ (a : ℕ). part a 32 (concat 4 f)) (mul-comm 32 i) ∙ concat-part f 32 4 each i h))
+
+-- four inputs, hashed, are four pads
+pub four-hashed : (batch first : ℕ) (values : List ℕ) → length values ≡ 64
+    → digests (concat 4 (λ i. padInput batch (first + i) (part (i * 16) 16 values))) ≡ concat 4 (λ i. padOf batch (first + i) (part (i * 16) 16 values))
+unfolding padOf
+four-hashed batch first values e =
+    digests-are (λ i. padInput batch (first + i) (part (i * 16) 16 values))
+    (λ i h. input-length batch (first + i) (part (i * 16) 16 values) (part-length (i * 16) 16 values (omega (arith, e, h))))
+
+-- ---- pads of rows that stand among others
+
+-- pads of four values from value i on
+pub four-from : (batch first start i : ℕ) (values : List ℕ) → start ≡ first + i
+    → concat 4 (λ j. padOf batch (start + j) (part (j * 16) 16 (part (i * 16) ((i + 4) * 16 - i * 16) values)))
+    ≡ concat 4 (λ j. padOf batch (first + (i + j)) (part ((i + j) * 16) 16 values))
+four-from batch first start i values e =
+    concat-same 4 _ _
+    (λ j h. ap₂ (padOf batch) (ap (λ (n : ℕ). n + j) e ∙ add-assoc first i j) (place-part i 4 j 16 values h))
+
+-- pads of eight rows of a table
+pub eight-from : (batch len first : ℕ) (table values : List ℕ) → values ≡ concat 8 (λ i. rowOf len table (first + i))
+    → concat 8 (λ i. padOf batch (first + i) (part (i * 16) 16 values)) ≡ concat 8 (λ i. padOf batch (first + i) (rowOf len table (first + i)))
+eight-from batch len first table values e =
+    concat-same 8 _ _
+    (λ i h.
+    ap (padOf batch (first + i))
+    (ap (part (i * 16) 16) e ∙ concat-part (λ i. rowOf len table (first + i)) 16 8 (λ i h. row-length len table (first + i)) i h))
+
+-- a range of two halves, which were lent one after the other and come back with four pads each
+pub two-halves : (f : ℕ → List ℕ) (xs ys zs : List ℕ) → ys ≡ concat 4 (λ j. f (0 + j)) → zs ≡ concat 4 (λ j. f (4 + j))
+    → ((i : ℕ) → length (f i) ≡ 32) → length xs ≡ 256 → putMid 128 128 (putMid 0 128 xs ys) zs ≡ concat 8 f
+unfolding concat
+two-halves f xs ys zs first second each e =
+    let long : (i : ℕ) → length (concat 4 (λ j. f (i + j))) ≡ 128 = λ i. concat-length (λ j. f (i + j)) 32 4 (λ j h. each (i + j)) in
+    let half = concat-grow f 0 4 0 128 xs ys first (long 0) (omega arith) (omega (arith, e)) refl in
+    let whole = concat-grow f 4 4 128 256 (putMid 0 128 xs ys) zs second (long 4) (omega arith) (omega (arith, half .0, e)) (half .1) in
+    sym (take-all 256 (putMid 128 128 (putMid 0 128 xs ys) zs) (omega (arith, whole .0, half .0, e))) ∙ whole .1
