@@ -3,15 +3,19 @@
 use mathlib.Core.Path.{_≡_, refl, sym, ap, ap₂, _∙_}
 use mathlib.Core.List.{List, [], _∷_}
 use mathlib.Core.Logic.{⊎-elim}
-use Prim.Native.Nat.{ℕ, zero, suc, _+_, _*_, _/_, _%_, _<_, _≤_}
-use native.Mathlib.Nat.{not-suc-le-zero, one-mul, zero-add, add-mul, mul-assoc, mul-comm, mul-le-mul-right, eq-or-lt-of-le}
+use Prim.Native.Nat.{ℕ, zero, suc, _+_, _*_, _/_, _%_, _^_, _<_, _≤_}
+use native.Mathlib.Nat.{not-suc-le-zero, one-mul, zero-add, add-comm, add-mul, mul-assoc, mul-comm, mul-le-mul-right, eq-or-lt-of-le}
 use native.Mathlib.Omega.{arith}
+use lib.Bits.{bitAnd, bitOr, and-mask, or-shifted-r}
+use lib.Pow.{shl-exact}
 use lib.ListN.{length, getD, set, length-set}
 use lib.Seq.{getD-set-same, getD-set-other, ext-getD}
 use Rattle.words.specs.Bytes.{concat}
 use Rattle.words.specs.Bits.{bitOf, bitAt, ofBits}
 use Rattle.words.proofs.Below.{below}
 use Rattle.pads.proofs.Bits.{ofBits-same}
+use Rattle.words.proofs.Xor.{low-lt}
+use Rattle.words.proofs.Sums.{ofBits-lt}
 use Rattle.words.proofs.Concat.{concat-length, concat-at, part-at}
 use Rattle.tree.specs.Layout.{columnOf}
 use Rattle.pads.specs.Pads.{rowOf}
@@ -93,6 +97,25 @@ packed-at v = below (λ (r : ℕ). getD (packedAll v) r 0 ≡ packed v r) 8 ((((
 packed-is : (v : List ℕ) (r : ℕ) → packed v r ≡ ofBits 8 (λ c. bitOf (getD v c 0) r)
 unfolding ofBits
 packed-is v r = omega arith
+
+-- bits of weight 1, shifted to their places and joined by bitwise or
+unfoldable pub orBits : ℕ → (ℕ → ℕ) → ℕ
+orBits zero x = bitAnd (x 0) 1
+orBits (suc k) x = bitOr (orBits k x) (bitAnd (x (suc k)) 1 * 2 ^ suc k % 2 ^ 8)
+
+or-is : (k : ℕ) (x : ℕ → ℕ) → k < 8 → orBits k x ≡ ofBits (suc k) (λ i. x i % 2)
+unfolding orBits ofBits
+or-is zero x h = and-mask (x 0) 1 ∙ omega arith
+or-is (suc k) x h =
+    let low : ℕ = ofBits (suc k) (λ i. x i % 2) in
+    let bit : bitAnd (x (suc k)) 1 * 2 ^ suc k % 2 ^ 8 ≡ x (suc k) % 2 * 2 ^ suc k =
+    ap (λ (b : ℕ). b * 2 ^ suc k % 2 ^ 8) (and-mask (x (suc k)) 1) ∙ shl-exact 1 (suc k) 8 (low-lt (x (suc k))) (omega arith) in
+    ap₂ bitOr (or-is k x (omega arith)) bit
+    ∙ or-shifted-r (x (suc k) % 2) (suc k) low (ofBits-lt (suc k) (λ i. x i % 2) (λ i. low-lt (x i)))
+    ∙ add-comm (x (suc k) % 2 * 2 ^ suc k) low
+
+pub packed-or : (v : List ℕ) (r : ℕ) → orBits 7 (λ c. getD v c 0 / 2 ^ r) ≡ packed v r
+packed-or v r = or-is 7 (λ c. getD v c 0 / 2 ^ r) (omega arith) ∙ sym (packed-is v r)
 
 -- ---- from the gathered bytes to rows
 

@@ -1,8 +1,7 @@
 -- `pads::four_pads` meets its contract: the digests of the four inputs are the pads. Assumes nothing.
-use mathlib.Core.Path.{_≡_, sym, ap, _∙_}
+use mathlib.Core.Path.{sym, ap, _∙_}
 use mathlib.Core.List.{List}
 use Prim.Native.Nat.{ℕ, _+_, _*_}
-use lib.ListN.{length}
 use borrow.Author.Needs.{needs}
 use Rattle.words.specs.Bytes.{part, put, concat}
 use Rattle.words.proofs.Concat.{concat-length}
