@@ -34,7 +34,8 @@ unfolding puts
 puts-length zero y i v = refl
 puts-length (suc n) y i v = length-set (puts n y i v) (16 * n + i) (getD v n 0) ∙ puts-length n y i v
 
-puts-other : (n : ℕ) (y : List ℕ) (i : ℕ) (v : List ℕ) (k c : ℕ) → i < 16 → k < 16 → (k ≡ i → ⊥) → getD (puts n y i v) (k + c * 16) 0 ≡ getD y (k + c * 16) 0
+puts-other : (n : ℕ) (y : List ℕ) (i : ℕ) (v : List ℕ) (k c : ℕ) → i < 16 → k < 16 → (k ≡ i → ⊥)
+    → getD (puts n y i v) (k + c * 16) 0 ≡ getD y (k + c * 16) 0
 unfolding puts
 puts-other zero y i v k c hi hk n = refl
 puts-other (suc m) y i v k c hi hk n =
