@@ -1,4 +1,4 @@
 // The columns of a batch.
 mod lanes;
-pub mod sender;
 pub mod receiver;
+pub mod sender;

@@ -117,3 +117,132 @@ fn first_trees(
     let end = 4 * len;
     four_trees(k, len, batch, sides, siblings, &all[0..end], s, u, v, table);
 }
+
+// The same for four trees from tree i on, whose corrections begin with that of tree i, or of tree 1 where i is 0.
+fn trees_from(
+    i: usize,
+    k: usize,
+    len: usize,
+    batch: u32,
+    sides: &[u8],
+    siblings: &[u8],
+    correction: &[u8],
+    s: &mut [u32],
+    u: &mut [u32],
+    v: &mut [u32],
+    table: &mut [u8],
+)
+    requires { ⌜ (k ≤ 8) × (length (now sides) ≡ 4 * k) × Sides (now sides) × (length (now siblings) ≡ 4 * (32 * k)) × (i ≤ 128) × ((i + 3) * len ≤ length (now correction)) × (length (now table) ≡ 4 * (k * len)) ⌝ }
+    requires { ⌜ (length (now s) ≡ 32 * k) × (length (now u) % 64 ≡ 0) × (length (now u) ≤ 128) × (0 < length (now u)) × (length (now v) ≡ k * length (now u)) × (len ≤ length (now u)) × (len % 4 ≡ 0) ⌝ }
+    ensures { λ _. ⌜ ((d : ℕ → ℕ) → SidesAre k (now (sides .entry)) d → now (table .exit) ≡ concat 4 (λ j. concat k (senderColumn k batch len (treePart k 32 j (now (siblings .entry))) (d j) (treeCorrection len (now (correction .entry)) (i + j))))) ⌝ }
+{
+    let end = (i + 3) * len;
+    if i == 0 {
+        first_trees(
+            k,
+            len,
+            batch,
+            sides,
+            siblings,
+            &correction[0..end],
+            s,
+            u,
+            v,
+            table,
+        );
+    } else {
+        let start = (i - 1) * len;
+        four_trees(
+            k,
+            len,
+            batch,
+            sides,
+            siblings,
+            &correction[start..end],
+            s,
+            u,
+            v,
+            table,
+        );
+    }
+}
+
+// The columns of all trees, worked out in s, u and v.
+fn all_trees(
+    k: usize,
+    len: usize,
+    batch: u32,
+    siblings: &[u8],
+    delta: &[u8],
+    correction: &[u8],
+    s: &mut [u32],
+    u: &mut [u32],
+    v: &mut [u32],
+    table: &mut [u8],
+)
+    requires { ⌜ (widthAllowed k ≡ true) × (length (now siblings) ≡ 4096) × (length (now delta) ≡ 16) × (length (now correction) ≡ (treesOf k - 1) * len) × (length (now table) ≡ columns * len) ⌝ }
+    requires { ⌜ (length (now s) ≡ 32 * k) × (length (now u) % 64 ≡ 0) × (length (now u) ≤ 128) × (0 < length (now u)) × (length (now v) ≡ k * length (now u)) × (len ≤ length (now u)) × (len % 4 ≡ 0) ⌝ }
+    ensures { λ _. ⌜ now (table .exit) ≡ senderTable k batch len (now (siblings .entry)) (now (delta .entry)) (now (correction .entry)) ⌝ }
+{
+    let sides = tree::side::all(k, delta);
+    let n = 128 / k;
+    let size = 32 * k;
+    let wide = k * len;
+    let mut i = 0;
+    while i < n {
+        let next = i + 4;
+        let first = i * k;
+        let last = next * k;
+        let from = i * size;
+        let to = next * size;
+        let start = i * wide;
+        let end = next * wide;
+        trees_from(
+            i,
+            k,
+            len,
+            batch,
+            &sides[first..last],
+            &siblings[from..to],
+            correction,
+            s,
+            u,
+            v,
+            &mut table[start..end],
+        );
+        i = next;
+    }
+}
+
+// The sender's table of a batch whose columns have len bytes.
+pub fn correct(
+    k: usize,
+    len: usize,
+    batch: u32,
+    siblings: &[u8],
+    delta: &[u8],
+    correction: &[u8],
+    table: &mut [u8],
+)
+    requires { ⌜ (widthAllowed k ≡ true) × (0 < len) × (len ≤ 128) × (len % 8 ≡ 0) × (length (now siblings) ≡ 4096) × (length (now delta) ≡ 16) × (length (now correction) ≡ (treesOf k - 1) * len) × (length (now table) ≡ columns * len) ⌝ }
+    ensures { λ _. ⌜ now (table .exit) ≡ senderTable k batch len (now (siblings .entry)) (now (delta .entry)) (now (correction .entry)) ⌝ }
+{
+    let size = 32 * k;
+    let room = lanes::room(len);
+    let wide = k * room;
+    let mut s = [0u32; 256];
+    let mut u = [0u32; 128];
+    let mut v = [0u32; 1024];
+    all_trees(
+        k,
+        len,
+        batch,
+        siblings,
+        delta,
+        correction,
+        &mut s[0..size],
+        &mut u[0..room],
+        &mut v[0..wide],
+        table,
+    );
+}
