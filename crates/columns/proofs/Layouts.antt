@@ -6,7 +6,7 @@ use native.Mathlib.Nat.{zero-add, zero-mul, add-mul, mul-le-mul-right}
 use native.Mathlib.Omega.{arith}
 use lib.ListN.{length, take, drop}
 use lib.Seq.{take-all}
-use borrow.Rule.Slice.PartMut.{putMid, mid-len}
+use borrow.Rule.Slice.PartMut.{putMid}
 use Rattle.words.specs.Bytes.{concat}
 use Rattle.words.proofs.Concat.{concat-same, concat-grow, concat-one, concat-length, next-place, rest-kept}
 
@@ -75,23 +75,13 @@ module _ (n m c r : ℕ) (f : ℕ → List ℕ) (all : c + r ≡ n) (each : (j :
       let grown = concat-grow f 0 c 0 (c * m) xs ys (made ∙ same) size (omega arith) (omega (arith, len, sizes)) refl in
       (grown .0, grown .1 ∙ ap (λ (k : ℕ). concat k f) (zero-add c))
 
-  pub begun-fits : c * m ≤ length begun
-  begun-fits = omega (arith, first .0, len, sizes)
-
-  -- what is left for the second loan
-  pub left-length : length (take (length begun - c * m) (drop (c * m) begun)) ≡ r * m
-  left-length = mid-len (c * m) (length begun) begun (omega arith) ∙ omega (arith, first .0, len, sizes)
-
   ended : (zs : List ℕ) → zs ≡ concat r (λ j. f (c + j))
       → (length (putMid (c * m) (length begun - c * m) begun zs) ≡ length begun)
       × (take (length begun) (putMid (c * m) (length begun - c * m) begun zs) ≡ concat (c + r) f)
   ended zs more =
       let back : r * m ≡ length begun - c * m = omega (arith, first .0, len, sizes) in
       concat-grow f c r (c * m) (length begun) begun zs more
-      (concat-length (λ j. f (c + j)) m r (λ j h. each (c + j) (omega (arith, all))) ∙ back) begun-fits (omega arith) (first .1)
-
-  pub both-length : (zs : List ℕ) → zs ≡ concat r (λ j. f (c + j)) → length (putMid (c * m) (length begun - c * m) begun zs) ≡ length xs
-  both-length zs more = ended zs more .0 ∙ first .0
+      (concat-length (λ j. f (c + j)) m r (λ j h. each (c + j) (omega (arith, all))) ∙ back) (omega (arith, first .0, len, sizes)) (omega arith) (first .1)
 
   -- after both
   pub both : (zs : List ℕ) → zs ≡ concat r (λ j. f (c + j)) → putMid (c * m) (length begun - c * m) begun zs ≡ concat n f

@@ -3,7 +3,7 @@ use mathlib.Core.Path.{_≡_, sym, ap, _∙_}
 use mathlib.Core.Bool.{true}
 use mathlib.Core.List.{List, _++_, append-nil, append-assoc}
 use Prim.Native.Nat.{ℕ, suc, _+_, _-_, _*_, _/_, _%_, _≤_, _<_}
-use native.Mathlib.Nat.{zero-add, mul-assoc, mul-le-mul-right}
+use native.Mathlib.Nat.{zero-add, mul-assoc, add-mul}
 use native.Mathlib.Omega.{arith}
 use lib.Bits.{bitXor, xor-zero-l}
 use lib.ListN.{length, getD, take, drop, replicate, length-replicate, length-append, drop-of-length-le}
@@ -152,18 +152,18 @@ pub record Whole (k len : ℕ) : Type 0 where
   pub fours : (treesOf k - 4) % 4 ≡ 0
   pub short : len ≤ 128
   pub tree : k * len ≤ 1024
+  -- the table has four trees and the others, and the correction three and the others
   pub table : 128 * len ≡ treesOf k * (k * len)
-  pub first : 4 * (k * len) ≤ 128 * len
-  pub ahead : 3 * len ≤ (treesOf k - 1) * len
-  pub corrections : (treesOf k - 1) * len ≤ 16384
+  pub cut : 128 * len ≡ 4 * (k * len) + (treesOf k - 4) * (k * len)
+  pub cut₂ : (treesOf k - 1) * len ≡ 3 * len + (treesOf k - 4) * len
 
 pub whole : (k len n : ℕ) → widthAllowed k ≡ true → n ≤ 128 → len ≤ n → Whole k len
 whole k len n h hn hl =
     let fits = width-fits k h in
     let short : len ≤ 128 = omega arith in
     let many : 4 ≤ treesOf k = width-cases (λ k. 4 ≤ treesOf k) (omega arith) (omega arith) (omega arith) (omega arith) k h in
-    let three : 3 ≤ treesOf k - 1 = omega arith in
-    let less : treesOf k - 1 ≤ 128 = omega (arith, fits .trees) in
+    let fours : 4 + (treesOf k - 4) ≡ treesOf k = omega arith in
+    let three : treesOf k - 1 ≡ 3 + (treesOf k - 4) = omega arith in
     let table : 128 * len ≡ treesOf k * (k * len) = ap (λ (c : ℕ). c * len) (sym (fits .columns)) ∙ mul-assoc (treesOf k) k len in
     record {
       some = fits .some;
@@ -174,9 +174,8 @@ whole k len n h hn hl =
       short = short;
       tree = columns-fit k len (fits .low) short;
       table = table;
-      first = omega (arith, table, mul-le-mul-right (k * len) many);
-      ahead = mul-le-mul-right len three;
-      corrections = omega (arith, mul-le-mul-right len less, short);
+      cut = table ∙ ap (λ (c : ℕ). c * (k * len)) (sym fours) ∙ add-mul 4 (treesOf k - 4) (k * len);
+      cut₂ = ap (λ (c : ℕ). c * len) three ∙ add-mul 3 (treesOf k - 4) len;
     }
 
 -- the first four roots
@@ -190,30 +189,18 @@ later-root roots n i e h =
     let place : 128 + i * 32 ≡ (4 + i) * 32 = omega arith in
     part-part (i * 32) 32 128 (length roots - 128) roots (omega (arith, e)) ∙ ap (λ (a : ℕ). part a 32 roots) place
 
--- what belongs to them
-pub front-trees : (f : List ℕ → List ℕ) (roots : List ℕ) → concat 4 (λ i. f (rootOf (take 128 roots) i)) ≡ concat 4 (λ i. f (rootOf roots i))
-front-trees f roots = concat-same 4 (λ i. f (rootOf (take 128 roots) i)) (λ i. f (rootOf roots i)) (λ i h. ap f (front-root roots i h))
+-- what belongs to c of the first, tree g i for each i
+pub front-trees : (f : List ℕ → List ℕ) (roots : List ℕ) (c : ℕ) (g : ℕ → ℕ) → ((i : ℕ) → i < c → g i < 4)
+    → concat c (λ i. f (rootOf (take 128 roots) (g i))) ≡ concat c (λ i. f (rootOf roots (g i)))
+front-trees f roots c g four =
+    concat-same c (λ i. f (rootOf (take 128 roots) (g i))) (λ i. f (rootOf roots (g i))) (λ i h. ap f (front-root roots (g i) (four i h)))
 
-pub front-others : (f : List ℕ → List ℕ) (roots : List ℕ)
-    → concat 3 (λ i. f (rootOf (take 128 roots) (suc i))) ≡ concat 3 (λ i. f (rootOf roots (suc i)))
-front-others f roots =
-    concat-same 3 (λ i. f (rootOf (take 128 roots) (suc i))) (λ i. f (rootOf roots (suc i)))
-    (λ i h. ap f (front-root roots (suc i) (omega arith)))
-
-pub later-trees : (f : List ℕ → List ℕ) (roots : List ℕ) (n : ℕ) → length roots ≡ 32 * n
-    → concat (n - 4) (λ i. f (rootOf (take (length roots - 128) (drop 128 roots)) i)) ≡ concat (n - 4) (λ i. f (rootOf roots (4 + i)))
-later-trees f roots n e =
-    concat-same (n - 4) (λ i. f (rootOf (take (length roots - 128) (drop 128 roots)) i)) (λ i. f (rootOf roots (4 + i)))
-    (λ i h. ap f (later-root roots n i e h))
-
-pub later-others : (f : List ℕ → List ℕ) (roots : List ℕ) (n : ℕ) → length roots ≡ 32 * n
-    → concat (n - 4) (λ i. f (rootOf (take (length roots - 128) (drop 128 roots)) i)) ≡ concat (n - 4) (λ i. f (rootOf roots (suc (3 + i))))
-later-others f roots n e =
-    later-trees f roots n e
-    ∙ concat-same (n - 4) (λ i. f (rootOf roots (4 + i))) (λ i. f (rootOf roots (suc (3 + i)))) (λ i h. ap (λ (j : ℕ). f (rootOf roots j)) (next i))
-  where
-    next : (i : ℕ) → 4 + i ≡ suc (3 + i)
-    next i = omega arith
+-- and to those after them
+pub later-trees : (f : List ℕ → List ℕ) (roots : List ℕ) (n : ℕ) (g : ℕ → ℕ) → length roots ≡ 32 * n → ((i : ℕ) → 4 + i ≡ g i)
+    → concat (n - 4) (λ i. f (rootOf (take (length roots - 128) (drop 128 roots)) i)) ≡ concat (n - 4) (λ i. f (rootOf roots (g i)))
+later-trees f roots n g e next =
+    concat-same (n - 4) (λ i. f (rootOf (take (length roots - 128) (drop 128 roots)) i)) (λ i. f (rootOf roots (g i)))
+    (λ i h. ap f (later-root roots n i e h ∙ ap (rootOf roots) (next i)))
 
 -- ---- the choices are added to n sums u
 

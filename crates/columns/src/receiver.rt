@@ -117,12 +117,12 @@ fn add_choices(n: usize, choices: &[u8], correction: &mut [u8])
     ensures { λ _. ⌜ now (correction .exit) ≡ concat n (λ i. xorList (part (i * length (now (choices .entry))) (length (now (choices .entry))) (now (correction .entry))) (now (choices .entry))) ⌝ }
 {
     let len = choices.len();
-    let mut i = 0;
-    while i < n {
-        let at = i * len;
+    let mut c = 0;
+    while c < n {
+        let at = c * len;
         let end = at + len;
         words::xor_into(&mut correction[at..end], choices);
-        i += 1;
+        c += 1;
     }
 }
 

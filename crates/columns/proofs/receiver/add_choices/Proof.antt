@@ -1,4 +1,4 @@
--- `columns::receiver::add_choices` meets its contract: the first i corrections have the choices added, and the others not yet.
+-- `columns::receiver::add_choices` meets its contract: the first c corrections have the choices added, and the others not yet.
 -- Assumes nothing.
 use mathlib.Core.Path.{_≡_, refl, sym, ap, _∙_}
 use mathlib.Core.List.{List}
@@ -20,12 +20,12 @@ abbrev added : List ℕ → List ℕ → ℕ → List ℕ
 added choices correction i = xorList (part (i * length choices) (length choices) correction) choices
 
 abbrev Inv-loop : tie.InvT-loop
-Inv-loop n choices correction₀ len i₀ correction i =
-    Filled n (length choices) (added choices correction₀) i correction
-    × (drop (i * length choices) correction ≡ drop (i * length choices) correction₀)
+Inv-loop n choices correction₀ len c₀ correction c =
+    Filled n (length choices) (added choices correction₀) c correction
+    × (drop (c * length choices) correction ≡ drop (c * length choices) correction₀)
 
 abbrev μ-loop : tie.MeasureT-loop
-μ-loop n choices correction₀ len i₀ correction i = n - i
+μ-loop n choices correction₀ len c₀ correction c = n - c
 
 loop-holds : tie.Need-loop-holds Inv-loop μ-loop
 loop-holds c =
@@ -38,12 +38,12 @@ Room n len i all = (n * len ≤ 16384) × (len ≤ 128) × (i * len + len ≤ n 
 
 room : (c : tie.In-loop Inv-loop μ-loop)
     → (let s = c .before .before .before .before in
-    Room (s .args .n) (length (s .args .choices .now)) (c .before .loop .i) (length (c .before .loop .correction)))
+    Room (s .args .n) (length (s .args .choices .now)) (c .before .loop .c) (length (c .before .loop .correction)))
 room c =
     let s = c .before .before .before .before in
     let w = c .before .loop in
     let len : ℕ = length (s .args .choices .now) in
-    let here : w .i * len + len ≤ s .args .n * len = place-fits (w .i) (s .args .n) len (c .loop-test .taken) in
+    let here : w .c * len + len ≤ s .args .n * len = place-fits (w .c) (s .args .n) len (c .loop-test .taken) in
     (omega (arith, mul-le-mul-right len (s .pre .0), s .pre .1), s .pre .1, here, omega (arith, here, w .inv .0 .len))
 
 mul-at : tie.Need-mul-at Inv-loop μ-loop
@@ -66,12 +66,12 @@ xor-into-requires c κs =
     let s = c .before .before .before .before .before in
     let w = c .before .before .loop in
     let len : ℕ = length (s .args .choices .now) in
-    let a : ℕ = w .i * len in
+    let a : ℕ = w .c * len in
     let long : _ ≡ len = mid-len a (a + len) (w .correction) (omega (arith, room (c .before))) ∙ omega arith in
     omega (arith, long)
 
-add-i : tie.Need-add-i Inv-loop μ-loop
-add-i c = omega (arith, c .before .before .before .before .loop-test .taken, c .before .before .before .before .before .before .before .before .pre .0)
+add-c : tie.Need-add-c Inv-loop μ-loop
+add-c c = omega (arith, c .before .before .before .before .loop-test .taken, c .before .before .before .before .before .before .before .before .pre .0)
 
 loop-less : tie.Need-loop-less Inv-loop μ-loop
 loop-less c = omega (arith, c .before .before .before .before .loop-test .taken)
@@ -86,18 +86,18 @@ loop-again c =
     let choices = s .args .choices .now in
     let old = s .args .correction .now in
     let len : ℕ = length choices in
-    let a : ℕ = w .i * len in
+    let a : ℕ = w .c * len in
     let back : a + len - a ≡ len = omega arith in
     let f : ℕ → List ℕ = added choices old in
     let each : (j : ℕ) → j < n → length (f j) ≡ len =
     λ j h. xorEach-length (part (j * len) len old) (λ i. getD choices i 0)
     ∙ part-length (j * len) len old (omega (arith, place-fits j n len h, s .pre .2)) in
-    let made : _ ≡ f (w .i) =
+    let made : _ ≡ f (w .c) =
     c .before .before .xor-into .ensures
     ∙ ap (λ (d : List ℕ). xorList (take (a + len - a) d) choices) (w .inv .1)
     ∙ ap (λ (m : ℕ). xorList (take m (drop a old)) choices) back in (
-      filled-one n len f (w .i) (w .correction) _ made each test (w .inv .0),
-      rest-one len (w .i) (w .correction) _ old (f (w .i)) made (each (w .i) test) (here .3) (w .inv .1),
+      filled-one n len f (w .c) (w .correction) _ made each test (w .inv .0),
+      rest-one len (w .c) (w .correction) _ old (f (w .c)) made (each (w .c) test) (here .3) (w .inv .1),
     )
 
 same-length : tie.Need-same-length Inv-loop μ-loop
@@ -106,7 +106,7 @@ same-length c = c .before .loop .inv .0 .len ∙ sym (c .before .before .before 
 returns : tie.Need-returns Inv-loop μ-loop
 returns c =
     let s = c .before .before .before .before in
-    filled-all (s .args .n) (length (s .args .choices .now)) _ (c .before .loop .i) (c .before .loop .correction) (omega arith)
+    filled-all (s .args .n) (length (s .args .choices .now)) _ (c .before .loop .c) (c .before .loop .correction) (omega arith)
     (c .before .loop .inv .0)
 
 pub add-choices-spec : {M : Type 1} → statement M
@@ -122,7 +122,7 @@ add-choices-spec =
     part-xor-into-start
     part-xor-into-end
     xor-into-requires
-    add-i
+    add-c
     loop-less
     loop-again
     same-length

@@ -1,6 +1,5 @@
 -- `columns::receiver::walk_roots` meets its contract: a walk from zero leaves the sums themselves. Assumes nothing.
 use mathlib.Core.Path.{_≡_, ap, _∙_}
-use mathlib.Core.List.{List}
 use Prim.Native.Nat.{ℕ, _*_}
 use native.Mathlib.Omega.{arith}
 use lib.ListN.{length, replicate, length-replicate}
