@@ -1,4 +1,4 @@
--- A range that a loop fills with lists of one length. Assumes nothing.
+-- A range that is filled with lists of one length, by a loop or by two loans. Assumes nothing.
 use mathlib.Core.Path.{_≡_, refl, sym, ap, _∙_, subst}
 use mathlib.Core.List.{List}
 use Prim.Native.Nat.{ℕ, _+_, _-_, _*_, _≤_, _<_}

@@ -10,8 +10,8 @@ ghost use Rattle.answer.specs.Answer.{widthAllowed};
 ghost use Rattle.tree.specs.Layout.{treesOf, rootOf};
 ghost use Rattle.columns.specs.Columns.{uOf, choicesOf, receiverColumn, receiverTable, correctionOf};
 
-// Fills u with the sums of the streams of four trees of k levels, side by side, and v with their columns: the first len bytes of each
-// lane are those that a column of len bytes has.
+// Fills u with the sums of the streams of four trees of k levels, side by side, and v with their columns. They are whole blocks long; a
+// column of len bytes is the first len bytes of a lane.
 fn walk_roots(k: usize, batch: u32, roots: &[u8], u: &mut [u32], v: &mut [u32])
     requires { ⌜ (length (now roots) ≡ 128) × (length (now u) % 64 ≡ 0) × (length (now u) ≤ 128) × (0 < length (now u)) × (length (now v) ≡ k * length (now u)) ⌝ }
     ensures { λ _. ⌜ ((len l : ℕ) → len % 4 ≡ 0 → len ≤ length (now (u .entry)) → l < 4 → laneBytes l (len / 4) (take len (now (u .exit))) ≡ uOf k batch len (rootOf (now (roots .entry)) l)) ⌝ }
