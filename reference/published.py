@@ -50,8 +50,12 @@ FOLDS = [
 
 
 def check():
+    keys = [key for key, _, _, _ in BLOCKS] + [b"\xff" * 32]
     for key, counter, nonce, block in BLOCKS:
         assert chacha20.block(key, counter, bytes.fromhex(nonce)).hex() == block
+        for given in (counter, chacha20.MASK):
+            each = [chacha20.block(k, given, bytes.fromhex(nonce)) for k in keys]
+            assert chacha20.blocks(keys, given, bytes.fromhex(nonce)) == each
     for message, digest in DIGESTS:
         assert sha256.digest(message).hex() == digest
     assert hashlib.sha256(b"a" * 1000000).hexdigest() == MILLION

@@ -9,6 +9,7 @@ import pathlib
 import random
 import sys
 
+import batch
 import chacha20
 import gf64
 import published
@@ -198,6 +199,7 @@ def files():
 def main():
     published.check()
     setup.check()
+    batch.check()
     differ = 0
     for name, content in files().items():
         path = ROOT / name

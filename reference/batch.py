@@ -1,0 +1,270 @@
+"""A batch's steps, for any inputs: paper 01, 'Trees and streams', 'Folding and pads' and 'Steps and their turning away'.
+
+The names are those of setup.py. Of the paper's letters, u_0 is the choices, V the receiver's table and W the sender's. A column is
+a number here, row j its bit j.
+"""
+
+import collections
+import functools
+import random
+
+import chacha20
+import gf64
+import setup
+import sha256
+from setup import DONE, LENGTH, NODE, TRANSFERS, WIDTH, WIDTHS
+
+STAGE, BATCH, BLOCKS = 2, 3, 4
+READY, OPEN, CLOSED = 0, 1, 2
+
+Record = collections.namedtuple("Record", "width last blocks stage")
+
+
+def xor(numbers):
+    return functools.reduce(lambda a, b: a ^ b, numbers, 0)
+
+
+def column_length(blocks):
+    return 8 * (blocks + 1)
+
+
+def parts(data, length):
+    return [data[at:at + length] for at in range(0, len(data), length)]
+
+
+def stored(columns, length):
+    return b"".join(column.to_bytes(length, "little") for column in columns)
+
+
+# Leaves and their streams. A tree's leaves are pairs of the leaf's number and its node.
+
+def below(nodes):
+    """The numbered nodes of many trees one depth further down: of each tree a list of pairs."""
+    made = iter(chacha20.blocks([node for tree in nodes for _, node in tree], 0, chacha20.nonce(0, 0)))
+    out = []
+    for tree in nodes:
+        out.append([])
+        for number, _ in tree:
+            children = next(made)
+            out[-1] += [(2 * number, children[:NODE]), (2 * number + 1, children[NODE:])]
+    return out
+
+
+@functools.lru_cache(maxsize=8)
+def receiver_leaves(width, roots):
+    """Every leaf of each tree."""
+    nodes = [[(0, root)] for root in parts(roots, NODE)]
+    for _ in range(width):
+        nodes = below(nodes)
+    return nodes
+
+
+@functools.lru_cache(maxsize=8)
+def sender_leaves(width, delta, siblings):
+    """The leaves of each tree that the nodes beside its path lead to: all but the one at the path's end."""
+    trees = range(TRANSFERS // width)
+    beside = [setup.beside(width, setup.delta_of(width, delta, i)) for i in trees]
+    nodes = [[] for _ in trees]
+    for level in range(width):
+        nodes = below(nodes)
+        for i in trees:
+            nodes[i].append((beside[i][level], setup.node_at(siblings, i * width + level)))
+    return nodes
+
+
+def streams(leaves, batch, length):
+    """Of each tree the pairs of a leaf's number y and its stream F(y)."""
+    nodes = [node for tree in leaves for _, node in tree]
+    halves = [chacha20.blocks(nodes, counter, chacha20.nonce(1, batch)) for counter in (0, 1)]
+    made = iter([int.from_bytes((a + b)[:length], "little") for a, b in zip(*halves)])
+    return [[(y, next(made)) for y, _ in tree] for tree in leaves]
+
+
+# Sums and columns of one tree.
+
+def total(tree):
+    return xor(f for _, f in tree)
+
+
+def receiver_columns(width, tree):
+    return [xor(f for y, f in tree if y >> b & 1) for b in range(width)]
+
+
+def sender_columns(width, d, tree):
+    return [xor(f for y, f in tree if y != d and (y ^ d) >> b & 1) for b in range(width)]
+
+
+# What the three steps write.
+
+def receiver_batch(width, roots, batch, length):
+    """The choices, the receiver's table and the correction."""
+    trees = streams(receiver_leaves(width, roots), batch, length)
+    u = [total(tree) for tree in trees]
+    table = [column for tree in trees for column in receiver_columns(width, tree)]
+    return stored(u[:1], length), stored(table, length), stored([x ^ u[0] for x in u[1:]], length)
+
+
+def sender_table(width, siblings, delta, batch, length, correction):
+    added = [0] + [int.from_bytes(part, "little") for part in parts(correction, length)]
+    out = []
+    for i, tree in enumerate(streams(sender_leaves(width, delta, siblings), batch, length)):
+        d = setup.delta_of(width, delta, i)
+        for b, column in enumerate(sender_columns(width, d, tree)):
+            out.append(column ^ (added[i] if d >> b & 1 else 0))
+    return stored(out, length)
+
+
+def row(table, length, j):
+    """Bit j of each of the 128 columns."""
+    bits = (table[c * length + j // 8] >> j % 8 & 1 for c in range(TRANSFERS))
+    return sum(bit << c for c, bit in enumerate(bits))
+
+
+def pad(batch, j, value):
+    return sha256.digest(b"PADS" + batch.to_bytes(8, "little") + j.to_bytes(4, "little") + value.to_bytes(16, "little"))
+
+
+def receiver_pads(batch, blocks, table):
+    length = column_length(blocks)
+    return b"".join(pad(batch, j, row(table, length, j)) for j in range(64 * blocks))
+
+
+def sender_pads(batch, blocks, table, delta):
+    """Pad 0 before pad 1 in each row."""
+    length, d = column_length(blocks), int.from_bytes(delta, "little")
+    rows = [row(table, length, j) for j in range(64 * blocks)]
+    return b"".join(pad(batch, j, value) + pad(batch, j, value ^ d) for j, value in enumerate(rows))
+
+
+def folds(key, table, length):
+    return [gf64.fold(key, gf64.words(column)) for column in parts(table, length)]
+
+
+def check_message(key, choices, table):
+    return b"".join(x.to_bytes(8, "little") for x in folds(key, choices + table, len(choices)))
+
+
+# The steps. Each gives the answer's number, the record, and what the ranges out then hold.
+
+def opening(record, batch, blocks, lengths):
+    """The answer of a step that opens a batch; lengths tells whether every range has the length named."""
+    if record.width not in WIDTHS:
+        return WIDTH
+    if record.stage != READY:
+        return STAGE
+    if batch == 0 or batch <= record.last:
+        return BATCH
+    if not 1 <= blocks <= 15:
+        return BLOCKS
+    return DONE if lengths() else LENGTH
+
+
+def ending(record, lengths):
+    """The answer of a step that ends a batch."""
+    if record.width not in WIDTHS:
+        return WIDTH
+    if record.stage != OPEN:
+        return STAGE
+    if record.last == 0:
+        return BATCH
+    if not 1 <= record.blocks <= 15:
+        return BLOCKS
+    return DONE if lengths() else LENGTH
+
+
+def start_lengths(width, blocks):
+    """Roots, choices, table, correction."""
+    length = column_length(blocks)
+    return [setup.roots_length(width), length, TRANSFERS * length, (TRANSFERS // width - 1) * length]
+
+
+def correct_lengths(width, blocks):
+    """Siblings, delta, correction, table."""
+    length = column_length(blocks)
+    return [NODE * TRANSFERS, TRANSFERS // 8, (TRANSFERS // width - 1) * length, TRANSFERS * length]
+
+
+def answer_lengths(blocks):
+    """Choices, table, message, pads."""
+    length = column_length(blocks)
+    return [length, TRANSFERS * length, 8 * (1 + TRANSFERS), 2048 * blocks]
+
+
+def lengths_of(ranges):
+    return [len(r) for r in ranges]
+
+
+def receiver_start(record, batch, blocks, roots, choices, table, correction):
+    given = lengths_of((roots, choices, table, correction))
+    answer = opening(record, batch, blocks, lambda: given == start_lengths(record.width, blocks))
+    if answer != DONE:
+        return answer, record, choices, table, correction
+    after = Record(record.width, batch, blocks, OPEN)
+    return (DONE, after) + receiver_batch(record.width, roots, batch, column_length(blocks))
+
+
+def sender_correct(record, batch, blocks, siblings, delta, correction, table):
+    given = lengths_of((siblings, delta, correction, table))
+    answer = opening(record, batch, blocks, lambda: given == correct_lengths(record.width, blocks))
+    if answer != DONE:
+        return answer, record, table
+    after = Record(record.width, batch, blocks, OPEN)
+    return DONE, after, sender_table(record.width, siblings, delta, batch, column_length(blocks), correction)
+
+
+def receiver_answer(record, key, choices, table, message, pads):
+    given = lengths_of((choices, table, message, pads))
+    answer = ending(record, lambda: given == answer_lengths(record.blocks))
+    if answer != DONE:
+        return answer, record, message, pads
+    after = Record(record.width, record.last, 0, READY)
+    return DONE, after, check_message(key, choices, table), receiver_pads(record.last, record.blocks, table)
+
+
+# What an honest batch has.
+
+def check_honest(rng, width, batch, blocks):
+    """Row j of W is row j of V, ⊕ delta where the choice is 1; the receiver's pad is the sender's of that number; and in each column
+    the sent fold ⊕ the fold of W is the choices' fold where delta has the bit, 0 elsewhere."""
+    roots, delta, key = rng.randbytes(setup.roots_length(width)), rng.randbytes(16), rng.randrange(1 << 64)
+    length = column_length(blocks)
+    siblings = setup.beside_paths(width, delta, roots)
+    choices, v, correction = receiver_batch(width, roots, batch, length)
+    w = sender_table(width, siblings, delta, batch, length, correction)
+    d = int.from_bytes(delta, "little")
+    chosen = [choices[j // 8] >> j % 8 & 1 for j in range(8 * length)]
+    assert 0 < sum(chosen) < 8 * length
+    for j, choice in enumerate(chosen):
+        assert row(w, length, j) == row(v, length, j) ^ (d if choice else 0)
+    mine, both = parts(receiver_pads(batch, blocks, v), 32), parts(sender_pads(batch, blocks, w, delta), 32)
+    assert mine == [both[2 * j + chosen[j]] for j in range(64 * blocks)]
+    first, *sent = gf64.words(check_message(key, choices, v))
+    assert [x ^ y for x, y in zip(sent, folds(key, w, length))] == [first if d >> c & 1 else 0 for c in range(TRANSFERS)]
+
+
+def check_columns(width, bits, u, receiver, senders):
+    """One row of one tree, from the bits of its leaves; senders has pairs of a secret and the sender's bits, as numbers."""
+    def number(columns):
+        return sum(bit << b for b, bit in enumerate(columns))
+
+    tree = list(enumerate(bits))
+    assert (total(tree), number(receiver_columns(width, tree))) == (u, receiver)
+    for d, sender in senders:
+        assert number(sender_columns(width, d, tree)) == sender
+
+
+def check():
+    """Paper 01's M8 to M10; the sender's leaves are the receiver's but for the path's end; honest batches at every width."""
+    check_columns(2, [1, 0, 1, 1], 1, 1, [(2, 3)])
+    check_columns(2, [1, 1, 1, 1], 0, 0, [(3, 0)])
+    check_columns(1, [0, 1], 1, 1, [(0, 1), (1, 0)])
+    rng = random.Random(15)
+    for width in WIDTHS:
+        roots, delta = rng.randbytes(setup.roots_length(width)), rng.randbytes(16)
+        mine = sender_leaves(width, delta, setup.beside_paths(width, delta, roots))
+        for i, tree in enumerate(receiver_leaves(width, roots)):
+            assert tree == list(enumerate(setup.tree(setup.node_at(roots, i), width)[-1]))
+            d = setup.delta_of(width, delta, i)
+            assert sorted(mine[i]) == tree[:d] + tree[d + 1:]
+        check_honest(rng, width, rng.randrange(1, 1 << 32), 1)
+        check_honest(rng, width, rng.randrange(1, 1 << 32), rng.randrange(2, 5))
