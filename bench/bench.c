@@ -108,6 +108,47 @@ static const struct row rows[] = {
     {"sender setup, k = 1", sender1_plain, 1, sender1_proved, 1, 0.6, 100},
 };
 
+/* The steps of a batch, of the width and the blocks that stand here; both sides have the same inputs and outputs of their own. */
+
+struct outputs { uint8_t choices[128], v[16384], correction[16256], w[16384], message[1032], pads[30720]; };
+
+static uint32_t width, blocks;
+static uint64_t fold_key;
+static uint8_t siblings[4096], received[16256], choices[128], table[16384];
+static struct outputs plain_out, proved_out;
+
+static size_t column(void) { return 8 * (blocks + 1); }
+
+static void start_plain(unsigned i) {
+    plain_receiver_start(width, roots, i + 1, blocks, plain_out.choices, plain_out.v, plain_out.correction);
+}
+static void start_proved(unsigned i) {
+    struct outputs *o = &proved_out;
+    sink ^= bench_receiver_start(width, roots, 4096 / width, i + 1, blocks, o->choices, column(), o->v, 128 * column(), o->correction,
+                                 (128 / width - 1) * column());
+}
+static void correct_plain(unsigned i) {
+    plain_sender_correct(width, siblings, delta, i + 1, blocks, received, plain_out.w);
+}
+static void correct_proved(unsigned i) {
+    sink ^= bench_sender_correct(width, siblings, 4096, delta, 16, i + 1, blocks, received, (128 / width - 1) * column(), proved_out.w,
+                                 128 * column());
+}
+static void answer_plain(unsigned i) {
+    plain_receiver_answer(i + 1, blocks, fold_key, choices, table, plain_out.message, plain_out.pads);
+}
+static void answer_proved(unsigned i) {
+    struct outputs *o = &proved_out;
+    sink ^= bench_receiver_answer(width, i + 1, blocks, fold_key, choices, column(), table, 128 * column(), o->message, 1032, o->pads,
+                                  2048 * blocks);
+}
+
+static const struct step { const char *name; void (*plain)(unsigned), (*proved)(unsigned); double goal; } steps[] = {
+    {"receiver start", start_plain, start_proved, 0.5},
+    {"sender correction", correct_plain, correct_proved, 0.5},
+    {"receiver answer", answer_plain, answer_proved, 0.35},
+};
+
 static double least(double best, void (*work)(unsigned), unsigned turns, double units) {
     double from = now();
     for (unsigned i = 0; i < turns; i++) work(i);
@@ -163,9 +204,45 @@ static void compare_setups(void) {
     }
 }
 
+/* Every width and every number of blocks. The outputs start alike, so that a byte that only one side writes is seen too. */
+static void compare_steps(void) {
+    for (int n = 0; n < 60; n++) {
+        width = 1u << n % 4;
+        blocks = 1 + n / 4;
+        fill(roots, sizeof roots); fill(siblings, sizeof siblings); fill(delta, sizeof delta); fill(received, sizeof received);
+        fill(choices, sizeof choices); fill(table, sizeof table); fill(&plain_out, sizeof plain_out);
+        fold_key = random64();
+        proved_out = plain_out;
+        for (size_t s = 0; s < sizeof steps / sizeof *steps; s++) {
+            unsigned i = n == 59 ? UINT32_MAX - 1 : (unsigned)random64() % UINT32_MAX;
+            sink = SOFTSPOKEN_DONE;
+            steps[s].plain(i);
+            steps[s].proved(i);
+            expect(sink == SOFTSPOKEN_DONE && !memcmp(&plain_out, &proved_out, sizeof plain_out), steps[s].name);
+        }
+    }
+}
+
+static void time_steps(void) {
+    printf("\n| Step | k | P | plain C, µs | proved, µs | ratio | goal |\n|---|---|---|---|---|---|---|\n");
+    for (size_t s = 0; s < sizeof steps / sizeof *steps; s++)
+        for (int n = 0; n < 8; n++) {
+            width = 1u << n / 2;
+            blocks = n % 2 ? 1 : 15;
+            double plain = 1e18, proved = 1e18;
+            for (int pass = 0; pass < PASSES; pass++) {
+                plain = least(plain, steps[s].plain, 1, 1000);
+                proved = least(proved, steps[s].proved, 1, 1000);
+            }
+            printf("| %s | %u | %u | %.1f | %.1f | %.2f | %.2f |\n", steps[s].name, (unsigned)width, (unsigned)blocks, plain, proved,
+                   proved / plain, steps[s].goal);
+        }
+}
+
 int main(void) {
     compare();
     compare_setups();
+    compare_steps();
     fill(table_bytes, sizeof table_bytes);
     printf("| Work | plain C, ns | proved, ns | ratio | goal |\n|---|---|---|---|---|\n");
     for (size_t r = 0; r < sizeof rows / sizeof *rows; r++) {
@@ -177,5 +254,6 @@ int main(void) {
         }
         printf("| %s | %.1f | %.1f | %.2f | %.2f |\n", w->name, plain, proved, proved / plain, w->goal);
     }
+    time_steps();
     return 0;
 }

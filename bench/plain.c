@@ -88,7 +88,7 @@ void plain_sha256(const uint8_t *m, size_t len, uint8_t out[32]) {
 static uint64_t product(uint64_t g, uint64_t a) {
     uint64_t r = 0;
     for (int i = 0; i < 64; i++) {
-        if (a >> i & 1) r ^= g;
+        r ^= g & -(a >> i & 1);
         g = g << 1 ^ (g >> 63) * 27;
     }
     return r;
@@ -135,5 +135,107 @@ void plain_sender_setup(unsigned width, const uint8_t delta[16], const uint8_t b
             for (int j = 0; j < 32; j++) node[j] = ((left[j] & mask) | (right[j] & ~mask)) ^ pad[j];
             add_children(node, level + 1, width, totals);
         }
+    }
+}
+
+/* A batch, one node at a time and one row at a time. The receiver's leaf numbers are public; delta enters only as masks. */
+
+struct batch { unsigned width; uint32_t number; size_t len; };
+
+static void xor_into(uint8_t *restrict to, const uint8_t *restrict from, size_t n) {
+    for (size_t j = 0; j < n; j++) to[j] ^= from[j];
+}
+
+static void xor_masked(uint8_t *restrict to, const uint8_t *restrict from, size_t n, uint8_t mask) {
+    for (size_t j = 0; j < n; j++) to[j] ^= from[j] & mask;
+}
+
+static void make_children(const uint8_t node[32], uint8_t children[64]) {
+    static const uint8_t nonce[12];
+    plain_chacha20_block(node, 0, nonce, children);
+}
+
+static void make_stream(const struct batch *a, const uint8_t leaf[32], uint8_t stream[128]) {
+    uint8_t nonce[12] = {1};
+    for (int j = 0; j < 4; j++) nonce[4 + j] = a->number >> 8 * j;
+    plain_chacha20_block(leaf, 0, nonce, stream);
+    if (a->len > 64) plain_chacha20_block(leaf, 1, nonce, stream + 64);
+}
+
+/* Adds the streams of the leaves below a node to u, and to column b those of the leaves whose number has bit b. */
+static void add_leaves(const struct batch *a, const uint8_t node[32], unsigned levels, unsigned number, uint8_t *u, uint8_t *columns) {
+    if (levels == 0) {
+        uint8_t stream[128];
+        make_stream(a, node, stream);
+        xor_into(u, stream, a->len);
+        for (unsigned b = 0; b < a->width; b++)
+            if (number >> b & 1) xor_into(columns + b * a->len, stream, a->len);
+        return;
+    }
+    uint8_t children[64];
+    make_children(node, children);
+    add_leaves(a, children, levels - 1, 2 * number, u, columns);
+    add_leaves(a, children + 32, levels - 1, 2 * number + 1, u, columns);
+}
+
+void plain_receiver_start(unsigned width, const uint8_t *roots, uint32_t batch, unsigned blocks, uint8_t *choices, uint8_t *table,
+                          uint8_t *correction) {
+    struct batch a = {width, batch, 8 * (blocks + 1)};
+    unsigned trees = 128 / width;
+    memset(choices, 0, a.len);
+    memset(table, 0, 128 * a.len);
+    memset(correction, 0, (trees - 1) * a.len);
+    for (unsigned i = 0; i < trees; i++) {
+        uint8_t *u = i ? correction + (i - 1) * a.len : choices;
+        add_leaves(&a, roots + 32 * i, width, 0, u, table + i * width * a.len);
+        if (i) xor_into(u, choices, a.len);
+    }
+}
+
+/* Adds to column b the streams of the leaves below a node whose number, exclusive or d, has bit b. */
+static void add_apart(const struct batch *a, const uint8_t node[32], unsigned levels, unsigned number, unsigned d, uint8_t *columns) {
+    if (levels == 0) {
+        uint8_t stream[128];
+        make_stream(a, node, stream);
+        for (unsigned b = 0; b < a->width; b++) xor_masked(columns + b * a->len, stream, a->len, -((number ^ d) >> b & 1));
+        return;
+    }
+    uint8_t children[64];
+    make_children(node, children);
+    add_apart(a, children, levels - 1, 2 * number, d, columns);
+    add_apart(a, children + 32, levels - 1, 2 * number + 1, d, columns);
+}
+
+void plain_sender_correct(unsigned width, const uint8_t *siblings, const uint8_t delta[16], uint32_t batch, unsigned blocks,
+                          const uint8_t *correction, uint8_t *table) {
+    struct batch a = {width, batch, 8 * (blocks + 1)};
+    memset(table, 0, 128 * a.len);
+    for (unsigned i = 0; i < 128 / width; i++) {
+        uint8_t *columns = table + i * width * a.len;
+        unsigned d = 0;
+        for (unsigned b = 0, c = i * width; b < width; b++, c++) d |= (delta[c / 8] >> c % 8 & 1u) << b;
+        for (unsigned level = 0; level < width; level++) {
+            unsigned below = width - 1 - level;
+            add_apart(&a, siblings + 32 * (i * width + level), below, d >> below ^ 1, d, columns);
+        }
+        if (i)
+            for (unsigned b = 0; b < width; b++)
+                xor_masked(columns + b * a.len, correction + (i - 1) * a.len, a.len, -(d >> b & 1));
+    }
+}
+
+void plain_receiver_answer(uint32_t batch, unsigned blocks, uint64_t key, const uint8_t *choices, const uint8_t *table,
+                           uint8_t message[1032], uint8_t *pads) {
+    size_t len = 8 * (blocks + 1);
+    for (int c = 0; c <= 128; c++) {
+        uint64_t fold = plain_fold(key, c ? table + (c - 1) * len : choices, len);
+        for (int j = 0; j < 8; j++) message[8 * c + j] = fold >> 8 * j;
+    }
+    for (unsigned row = 0; row < 64 * blocks; row++) {
+        uint8_t m[32] = "PADS";
+        for (int j = 0; j < 4; j++) m[4 + j] = batch >> 8 * j;
+        for (int j = 0; j < 4; j++) m[12 + j] = row >> 8 * j;
+        for (int c = 0; c < 128; c++) m[16 + c / 8] |= (table[c * len + row / 8] >> row % 8 & 1) << c % 8;
+        plain_sha256(m, 32, pads + 32 * row);
     }
 }

@@ -1,4 +1,4 @@
-/* Plain C counterparts of the proved functions, from RFC 8439, FIPS 180-4, the field's definition and paper 01's trees. */
+/* Plain C counterparts of the proved functions, from RFC 8439, FIPS 180-4, the field's definition and paper 01. */
 #include <stddef.h>
 #include <stdint.h>
 
@@ -9,3 +9,10 @@ uint64_t plain_fold(uint64_t key, const uint8_t *s, size_t len);
 void plain_receiver_setup(unsigned width, const uint8_t *roots, const uint8_t base_pads[8192], uint8_t message[8192]);
 void plain_sender_setup(unsigned width, const uint8_t delta[16], const uint8_t base_pads[4096], const uint8_t message[8192],
                         uint8_t siblings[4096]);
+/* A batch's steps for a width and blocks that are allowed, on ranges of the lengths that paper 01 names. */
+void plain_receiver_start(unsigned width, const uint8_t *roots, uint32_t batch, unsigned blocks, uint8_t *choices, uint8_t *table,
+                          uint8_t *correction);
+void plain_sender_correct(unsigned width, const uint8_t *siblings, const uint8_t delta[16], uint32_t batch, unsigned blocks,
+                          const uint8_t *correction, uint8_t *table);
+void plain_receiver_answer(uint32_t batch, unsigned blocks, uint64_t key, const uint8_t *choices, const uint8_t *table,
+                           uint8_t message[1032], uint8_t *pads);
