@@ -32,7 +32,8 @@ def tree(root, width):
     """The nodes of each depth from the left: the children made at level l are those of depth l + 1."""
     depths = [[root]]
     for _ in range(width):
-        depths.append([child for node in depths[-1] for child in children(node)])
+        made = chacha20.blocks(depths[-1], 0, chacha20.nonce(0, 0))
+        depths.append([child for block in made for child in (block[:NODE], block[NODE:])])
     return depths
 
 

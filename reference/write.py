@@ -233,7 +233,8 @@ def batches_done(v, rng):
             session(v, rng, width, sizes)
         last = (128 // width - 1) * batch.column_length(2) - 1
         for place in (0, last // 2, last):
-            v.batch(v.records, ready(width, 6), ready(width, 5), 7, 2, rng.randrange(1 << 64), rng.randbytes(16), place, rng.randrange(1, 256))
+            key, delta, mask = rng.randrange(1 << 64), rng.randbytes(16), rng.randrange(1, 256)
+            v.batch(v.records, ready(width, 6), ready(width, 5), 7, 2, key, delta, place, mask)
         for delta in (bytes(16), b"\xff" * 16):
             v.batch(v.records, ready(width, 0), ready(width, 0), 3, 1, rng.randrange(1 << 64), delta)
             v.batch(v.records, ready(width, 0), ready(width, 0), 3, 1, 0, delta, last // 3, 255)
