@@ -1,15 +1,15 @@
 -- Which answer the conditions of a step give, and what a step that is done tells of them. Assumes nothing.
-use mathlib.Core.Path.{_≡_, ap, _∙_}
+use mathlib.Core.Path.{_≡_, refl, sym, ap, _∙_}
 use mathlib.Core.Bool.{Bool, true, false}
-use mathlib.Core.List.{[], _∷_}
-use types.Run.{OneOf, miss}
-use denote.Enum.Declared.{tagOf}
-use Rattle.answer.proofs.Answer as A
+use Prim.Native.Nat.{ℕ, _-_, _*_, _≤_}
+use native.Mathlib.Omega.{arith}
+use borrow.Author.Tests.{eqb-true, leb-true}
 use Rattle.answer.specs.declared.Answer.{Answer}
 use Rattle.answer.specs.declared.Answer.the-variants.{Done, Width, Stage, Batch, Blocks, Length}
-use Rattle.answer.specs.Answer.{unless}
-use Rattle.answer.proofs.Laws.{done-of, width-refuses, length-refuses}
-use Rattle.session.specs.Steps.{inOrder}
+use Rattle.answer.specs.Answer.{unless, both, widthAllowed, whenDone}
+use Rattle.answer.proofs.Laws.{both-of, done-of, width-refuses, length-refuses, width-cases}
+use Rattle.tree.specs.Layout.{columns, treesOf, columnLength}
+use Rattle.session.specs.Steps.{inOrder, blocksAllowed, startLengths, correctLengths, answerLengths}
 
 pub width-first : (w s b p l : Bool) → w ≡ false → inOrder w s b p l ≡ Width
 unfolding inOrder
@@ -40,3 +40,79 @@ blocks-next p l e = ap (λ (x : Bool). inOrder true true true x l) e
 pub after-blocks : (p l : Bool) → p ≡ true → inOrder true true true p l ≡ unless l Length Done
 unfolding inOrder
 after-blocks p l e = ap (λ (x : Bool). inOrder true true true x l) e
+
+-- ---- a step that is done
+
+stage-refuses : Stage ≡ Done → ⊥
+stage-refuses e = let z : _≡_ {A = ℕ} 0 1 = cc in omega arith
+
+batch-refuses : Batch ≡ Done → ⊥
+batch-refuses e = let z : _≡_ {A = ℕ} 0 1 = cc in omega arith
+
+blocks-refuses : Blocks ≡ Done → ⊥
+blocks-refuses e = let z : _≡_ {A = ℕ} 0 1 = cc in omega arith
+
+-- all conditions hold
+pub all-hold : (w s b p l : Bool) → inOrder w s b p l ≡ Done → (w ≡ true) × (s ≡ true) × (b ≡ true) × (p ≡ true) × (l ≡ true)
+unfolding inOrder
+all-hold w s b p l e =
+    let width = done-of _ Width _ width-refuses e in
+    let stage = done-of _ Stage _ stage-refuses (width .1) in
+    let batch = done-of _ Batch _ batch-refuses (stage .1) in
+    let blocks = done-of _ Blocks _ blocks-refuses (batch .1) in
+    (width .0, stage .0, batch .0, blocks .0, done-of _ Length _ length-refuses (blocks .1) .0)
+
+-- where the conditions before the lengths hold, the lengths decide
+pub then-lengths : (w s b p l : Bool) → inOrder w s b p true ≡ Done → inOrder w s b p l ≡ unless l Length Done
+then-lengths w s b p l e =
+    let all = all-hold w s b p true e in
+    after-width w s b p l (all .0) ∙ after-stage s b p l (all .1) ∙ after-batch b p l (all .2) ∙ after-blocks p l (all .3)
+
+-- and where one doesn't, they don't count
+pub before-lengths : (w s b p l : Bool) → (inOrder w s b p true ≡ Done → ⊥) → inOrder w s b p l ≡ inOrder w s b p true
+unfolding inOrder
+before-lengths false s b p l n = refl
+before-lengths true false b p l n = refl
+before-lengths true true false p l n = refl
+before-lengths true true true false l n = refl
+before-lengths true true true true l n = absurd (n refl)
+
+-- an answer that leaves what it finds isn't Done
+pub leaves : (x : Answer) → _≡_ {A = ℕ} 0 (whenDone x 1 0) → x ≡ Done → ⊥
+leaves x kept e = let z : _≡_ {A = ℕ} 0 1 = kept ∙ ap (λ (y : Answer). whenDone y 1 0) e in omega arith
+
+-- ---- what the conditions say
+
+pub blocks-fit : (blocks : ℕ) → blocksAllowed blocks ≡ true → (1 ≤ blocks) × (blocks ≤ 15)
+blocks-fit blocks e = let h = both-of _ _ e in (leb-true 1 blocks (h .0), leb-true blocks 15 (h .1))
+
+pub some-trees : (k : ℕ) → widthAllowed k ≡ true → 16 ≤ treesOf k
+some-trees = width-cases (λ (k : ℕ). 16 ≤ treesOf k) (omega arith) (omega arith) (omega arith) (omega arith)
+
+four-of : (a b c d : Bool) → both a (both b (both c d)) ≡ true → (a ≡ true) × (b ≡ true) × (c ≡ true) × (d ≡ true)
+four-of a b c d e =
+    let first = both-of _ _ e in
+    let second = both-of _ _ (first .1) in
+    let third = both-of _ _ (second .1) in
+    (first .0, second .0, third .0, third .1)
+
+pub start-fits : (k len roots choices table correction : ℕ) → startLengths k len roots choices table correction ≡ true
+    → (roots ≡ 32 * treesOf k) × (choices ≡ len) × (table ≡ columns * len) × (correction ≡ (treesOf k - 1) * len)
+unfolding startLengths
+start-fits k len roots choices table correction e =
+    let h = four-of _ _ _ _ e in
+    (eqb-true _ _ (h .0), eqb-true _ _ (h .1), eqb-true _ _ (h .2), eqb-true _ _ (h .3))
+
+pub correct-fits : (k len siblings delta correction table : ℕ) → correctLengths k len siblings delta correction table ≡ true
+    → (siblings ≡ 32 * columns) × (delta ≡ 16) × (correction ≡ (treesOf k - 1) * len) × (table ≡ columns * len)
+unfolding correctLengths
+correct-fits k len siblings delta correction table e =
+    let h = four-of _ _ _ _ e in
+    (eqb-true _ _ (h .0), eqb-true _ _ (h .1), eqb-true _ _ (h .2), eqb-true _ _ (h .3))
+
+pub answer-fits : (blocks choices table message pads : ℕ) → answerLengths blocks choices table message pads ≡ true
+    → (choices ≡ columnLength blocks) × (table ≡ columns * columnLength blocks) × (message ≡ 1032) × (pads ≡ 2048 * blocks)
+unfolding answerLengths
+answer-fits blocks choices table message pads e =
+    let h = four-of _ _ _ _ e in
+    (eqb-true _ _ (h .0), eqb-true _ _ (h .1), eqb-true _ _ (h .2), eqb-true _ _ (h .3))

@@ -87,3 +87,73 @@ fn lengths_are(found: [usize; 4], named: [usize; 4]) -> bool
     }
     found[3] == named[3]
 }
+
+// The answer of the receiver's start. A length can be told only of a width and blocks that are allowed.
+pub fn start_answer(
+    r: Record,
+    batch: u32,
+    blocks: u32,
+    roots: usize,
+    choices: usize,
+    table: usize,
+    correction: usize,
+) -> Answer
+    ensures { λ x. ⌜ x ≡ openAnswer r batch blocks (startLengths (r .width) (columnLength blocks) roots choices table correction) ⌝ }
+{
+    let first = open_answer(r, batch, blocks);
+    if let Answer::Done = first {
+        let n = 128 / (r.width as usize);
+        let len = 8 * (blocks as usize + 1);
+        if !lengths_are(
+            [roots, choices, table, correction],
+            [32 * n, len, 128 * len, (n - 1) * len],
+        ) {
+            return Answer::Length;
+        }
+    }
+    first
+}
+
+// The answer of the sender's correction.
+pub fn correct_answer(
+    r: Record,
+    batch: u32,
+    blocks: u32,
+    siblings: usize,
+    delta: usize,
+    correction: usize,
+    table: usize,
+) -> Answer
+    ensures { λ x. ⌜ x ≡ openAnswer r batch blocks (correctLengths (r .width) (columnLength blocks) siblings delta correction table) ⌝ }
+{
+    let first = open_answer(r, batch, blocks);
+    if let Answer::Done = first {
+        let n = 128 / (r.width as usize);
+        let len = 8 * (blocks as usize + 1);
+        if !lengths_are(
+            [siblings, delta, correction, table],
+            [4096, 16, (n - 1) * len, 128 * len],
+        ) {
+            return Answer::Length;
+        }
+    }
+    first
+}
+
+// The answer of the receiver's answer.
+pub fn answer_answer(r: Record, choices: usize, table: usize, message: usize, pads: usize) -> Answer
+    ensures { λ x. ⌜ x ≡ endAnswer r (answerLengths (r .blocks) choices table message pads) ⌝ }
+{
+    let first = end_answer(r);
+    if let Answer::Done = first {
+        let blocks = r.blocks as usize;
+        let len = 8 * (blocks + 1);
+        if !lengths_are(
+            [choices, table, message, pads],
+            [len, 128 * len, 1032, 2048 * blocks],
+        ) {
+            return Answer::Length;
+        }
+    }
+    first
+}

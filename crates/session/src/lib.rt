@@ -2,6 +2,7 @@
 mod answers;
 
 use answer::Answer;
+ghost use Rattle.session.specs.Steps.{ReceiverStart, SenderCorrect, ReceiverAnswer};
 
 // The record of a session: its width, the last batch number (0 for none), the blocks of the open batch, and the stage (0 ready, 1 open,
 // 2 closed). It may hold any numbers.
@@ -17,4 +18,110 @@ pub struct Record {
 pub struct Stepped {
     pub answer: Answer,
     pub record: Record,
+}
+
+// The receiver's start: choices, table and correction of a new batch.
+pub fn receiver_start(
+    r: Record,
+    roots: &[u8],
+    batch: u32,
+    blocks: u32,
+    choices: &mut [u8],
+    table: &mut [u8],
+    correction: &mut [u8],
+) -> Stepped
+    ensures { λ x. ⌜ ReceiverStart r (now (roots .entry)) batch blocks (now (choices .entry)) (now (table .entry)) (now (correction .entry)) (x .answer) (x .record) (now (choices .exit)) (now (table .exit)) (now (correction .exit)) ⌝ }
+{
+    let answer = answers::start_answer(
+        r,
+        batch,
+        blocks,
+        roots.len(),
+        choices.len(),
+        table.len(),
+        correction.len(),
+    );
+    if let Answer::Done = answer {
+        columns::receiver::start(r.width as usize, roots, batch, choices, table, correction);
+        let record = Record {
+            width: r.width,
+            last: batch,
+            blocks,
+            stage: 1,
+        };
+        Stepped { answer, record }
+    } else {
+        Stepped { answer, record: r }
+    }
+}
+
+// The sender's correction: its table of a new batch, from the correction that it received.
+pub fn sender_correct(
+    r: Record,
+    siblings: &[u8],
+    delta: &[u8],
+    batch: u32,
+    blocks: u32,
+    correction: &[u8],
+    table: &mut [u8],
+) -> Stepped
+    ensures { λ x. ⌜ SenderCorrect r (now (siblings .entry)) (now (delta .entry)) batch blocks (now (correction .entry)) (now (table .entry)) (x .answer) (x .record) (now (table .exit)) ⌝ }
+{
+    let answer = answers::correct_answer(
+        r,
+        batch,
+        blocks,
+        siblings.len(),
+        delta.len(),
+        correction.len(),
+        table.len(),
+    );
+    if let Answer::Done = answer {
+        let len = 8 * (blocks as usize + 1);
+        columns::sender::correct(
+            r.width as usize,
+            len,
+            batch,
+            siblings,
+            delta,
+            correction,
+            table,
+        );
+        let record = Record {
+            width: r.width,
+            last: batch,
+            blocks,
+            stage: 1,
+        };
+        Stepped { answer, record }
+    } else {
+        Stepped { answer, record: r }
+    }
+}
+
+// The receiver's answer: the check message under the sender's key, and the receiver's pads.
+pub fn receiver_answer(
+    r: Record,
+    key: u64,
+    choices: &[u8],
+    table: &[u8],
+    message: &mut [u8],
+    pads: &mut [u8],
+) -> Stepped
+    ensures { λ x. ⌜ ReceiverAnswer r key (now (choices .entry)) (now (table .entry)) (now (message .entry)) (now (pads .entry)) (x .answer) (x .record) (now (message .exit)) (now (pads .exit)) ⌝ }
+{
+    let answer = answers::answer_answer(r, choices.len(), table.len(), message.len(), pads.len());
+    if let Answer::Done = answer {
+        consistency::write_message(key, choices, table, message);
+        pads::receiver_pads(r.last as u64, r.blocks as usize, table, pads);
+        let record = Record {
+            width: r.width,
+            last: r.last,
+            blocks: 0,
+            stage: 0,
+        };
+        Stepped { answer, record }
+    } else {
+        Stepped { answer, record: r }
+    }
 }
