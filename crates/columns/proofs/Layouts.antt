@@ -4,8 +4,8 @@ use mathlib.Core.List.{List}
 use Prim.Native.Nat.{ℕ, _+_, _-_, _*_, _≤_, _<_}
 use native.Mathlib.Nat.{zero-add, zero-mul, add-mul, mul-le-mul-right}
 use native.Mathlib.Omega.{arith}
-use lib.ListN.{length, take, drop}
-use lib.Seq.{take-all}
+use lib.ListN.{length, take, drop, replicate, length-replicate}
+use lib.Seq.{take-all, length-take-le}
 use borrow.Rule.Slice.PartMut.{putMid}
 use Rattle.words.specs.Bytes.{concat}
 use Rattle.words.proofs.Concat.{concat-same, concat-grow, concat-one, concat-length, next-place, rest-kept}
@@ -55,6 +55,12 @@ filled-all n m f i xs h had =
 -- at most 8 columns of at most 128 elements
 pub columns-fit : (k m : ℕ) → k ≤ 8 → m ≤ 128 → k * m ≤ 1024
 columns-fit k m hk hm = omega (arith, mul-le-mul-right m hk)
+
+-- a part of an array of m zeros, to work in
+pub cut-length : (n m : ℕ) → n ≤ m → length (take (n - 0) (replicate {A = ℕ} m 0)) ≡ n
+cut-length n m h =
+    let all : n - 0 ≡ n = omega arith in
+    length-take-le (n - 0) (replicate {A = ℕ} m 0) (omega (arith, length-replicate {A = ℕ} m 0)) ∙ all
 
 -- ---- a range that is filled by two loans: first c of n lists of m elements, and then the r others
 

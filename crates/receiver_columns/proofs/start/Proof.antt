@@ -1,0 +1,154 @@
+-- `receiver_columns::start` meets its contract: it lends its work space, and adds the choices to the sums. Assumes nothing.
+use mathlib.Core.Path.{_≡_, sym, ap, _∙_}
+use Prim.Native.Nat.{ℕ, suc, _-_, _*_, _≤_}
+use native.Mathlib.Omega.{arith}
+use lib.ListN.{length, take, replicate, length-replicate}
+use lib.Seq.{length-take-le}
+use borrow.Author.Needs.{needs}
+use Rattle.tree.specs.Layout.{treesOf, rootOf}
+use Rattle.columns.specs.Columns.{uOf, correctionOf}
+use Rattle.columns.proofs.Layouts.{columns-fit}
+use Rattle.receiver_columns.proofs.Starts.{u-length, whole, corrected}
+use Rattle.receiver_columns.proofs.start.Statement.{statement}
+use Rattle.receiver_columns.proofs.start.Tie as tie
+
+room-requires : tie.Need-room-requires
+room-requires c κs = search needs
+
+mul-size : tie.Need-mul-size
+mul-size c =
+    let r = c .room in
+    let s = c .before .before .before .before .before in
+    let k = s .args .k in
+    let len : ℕ = length (s .args .choices .now) in
+    let w = whole k len len (s .pre .0) (s .pre .4) (omega arith) in
+    let short : r .result ≤ 128 = omega (arith, r .ensures, s .pre .4) in
+    let size = columns-fit k (r .result) (w .low) short in
+    omega (arith, size)
+
+sub-all-trees : tie.Need-sub-all-trees
+sub-all-trees c = search needs
+
+part-u-start : tie.Need-part-u-start
+part-u-start c = search needs
+
+part-u-end : tie.Need-part-u-end
+part-u-end c = search needs
+
+sub-all-trees-2 : tie.Need-sub-all-trees-2
+sub-all-trees-2 c = search needs
+
+part-v-start : tie.Need-part-v-start
+part-v-start c = search needs
+
+part-v-end : tie.Need-part-v-end
+part-v-end c =
+    let r = c .before .room in
+    let s = c .before .before .before .before .before .before in
+    let k = s .args .k in
+    let len : ℕ = length (s .args .choices .now) in
+    let w = whole k len len (s .pre .0) (s .pre .4) (omega arith) in
+    let short : r .result ≤ 128 = omega (arith, r .ensures, s .pre .4) in
+    let size = columns-fit k (r .result) (w .low) short in
+    omega (arith, size)
+
+all-trees-requires : tie.Need-all-trees-requires
+all-trees-requires c κs =
+    let r = c .before .before .before .before .before .room in
+    let s = c .before .before .before .before .before .before .before .before .before .before in
+    let k = s .args .k in
+    let len : ℕ = length (s .args .choices .now) in
+    let w = whole k len len (s .pre .0) (s .pre .4) (omega arith) in
+    let short : r .result ≤ 128 = omega (arith, r .ensures, s .pre .4) in
+    let size = columns-fit k (r .result) (w .low) short in
+    let back : r .result - 0 ≡ r .result = omega arith in
+    let back₂ : k * r .result - 0 ≡ k * r .result = omega arith in
+    let u : length (take (r .result - 0) (replicate {A = ℕ} 128 0)) ≡ r .result =
+    length-take-le (r .result - 0) (replicate {A = ℕ} 128 0) (omega (arith, length-replicate {A = ℕ} 128 0, short)) ∙ back in
+    let v : length (take (k * r .result - 0) (replicate {A = ℕ} 1024 0)) ≡ k * r .result =
+    length-take-le (k * r .result - 0) (replicate {A = ℕ} 1024 0) (omega (arith, length-replicate {A = ℕ} 1024 0, size)) ∙ back₂ in (
+      (
+        s .pre .0,
+        omega (arith, s .pre .2),
+        s .pre .3,
+        omega (arith, u, r .ensures),
+        omega (arith, u, short),
+        omega (arith, u, r .ensures),
+        v ∙ ap (λ (m : ℕ). k * m) (sym u),
+      ),
+      (s .pre .1, s .pre .5, s .pre .6),
+    )
+
+div-add-choices : tie.Need-div-add-choices
+div-add-choices c =
+    let s = c .before .before .before .before .before .before .before .before .before .before .before .before .before .before .before .before .before .before .before in
+    let len : ℕ = length (s .args .choices .now) in
+    let w = whole (s .args .k) len len (s .pre .0) (s .pre .4) (omega arith) in
+    w .some
+
+sub-add-choices : tie.Need-sub-add-choices
+sub-add-choices c =
+    let s = c .before .before .before .before .before .before .before .before .before .before .before .before .before .before .before .before .before .before .before in
+    let len : ℕ = length (s .args .choices .now) in
+    let w = whole (s .args .k) len len (s .pre .0) (s .pre .4) (omega arith) in
+    omega (arith, w .many)
+
+add-choices-requires : tie.Need-add-choices-requires
+add-choices-requires c κs =
+    let s = c .before .before .before .before .before .before .before .before .before .before .before .before .before .before .before .before .before .before .before .before .before in
+    let len : ℕ = length (s .args .choices .now) in
+    let w = whole (s .args .k) len len (s .pre .0) (s .pre .4) (omega arith) in
+    let did = c .before .before .before .before .before .before .before .before .before .before .all-trees in
+    let long = did .kept .1 .1 .1 .1 .1 .0 in (
+      omega (arith, w .trees),
+      omega (arith, long, w .short),
+      did .kept .1 .1 .1 .1 .1 .1 .1 .0 ∙ s .pre .6 ∙ ap (λ (m : ℕ). (treesOf (s .args .k) - 1) * m) (sym long),
+    )
+
+same-length : tie.Need-same-length
+same-length c = search needs
+
+same-length-2 : tie.Need-same-length-2
+same-length-2 c = search needs
+
+same-length-3 : tie.Need-same-length-3
+same-length-3 c = search needs
+
+returns : tie.Need-returns
+unfolding correctionOf
+returns c =
+    let did = c .before .before .before .before .before .before .before .before .before .before .before .before .before .all-trees in
+    let s = c .before .before .before .before .before .before .before .before .before .before .before .before .before .before .before .before .before .before .before .before .before .before .before .before in
+    let k = s .args .k in
+    let batch = s .args .batch in
+    let roots = s .args .roots .now in
+    let len : ℕ = length (s .args .choices .now) in (
+      did .ensures .0,
+      (
+        did .ensures .1 .0,
+        c .before .before .add-choices .ensures
+            ∙ corrected (treesOf k - 1) len (λ i. uOf k batch len (rootOf roots (suc i))) (λ i. u-length k batch len (rootOf roots (suc i))) _ _
+            (uOf k batch len (rootOf roots 0)) (did .ensures .0) (u-length k batch len (rootOf roots 0)) (did .ensures .1 .1),
+      ),
+    )
+
+pub start-spec : {M : Type 1} → statement M
+start-spec =
+    tie.close
+    (tie.spec
+    room-requires
+    mul-size
+    sub-all-trees
+    part-u-start
+    part-u-end
+    sub-all-trees-2
+    part-v-start
+    part-v-end
+    all-trees-requires
+    div-add-choices
+    sub-add-choices
+    add-choices-requires
+    same-length
+    same-length-2
+    same-length-3
+    returns)

@@ -1,0 +1,5 @@
+-- The laws that other crates cite.
+pub mod Beside
+pub mod Reached
+pub mod Masked
+pub mod Groups

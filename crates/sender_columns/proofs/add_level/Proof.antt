@@ -1,0 +1,171 @@
+-- `sender_columns::add_level` meets its contract: the three additions, one after the other. Assumes nothing.
+use mathlib.Core.Path.{_≡_, refl, ap, ap₂, _∙_}
+use mathlib.Core.List.{List}
+use denote.Ref.{now}
+use Prim.Native.Nat.{ℕ, _+_, _-_, _*_, _%_, _≤_}
+use native.Mathlib.Omega.{arith}
+use lib.ListN.{length, getD}
+use borrow.Rule.Slice.PartMut.{mid-len, putMid}
+use borrow.Author.Needs.{needs}
+use Rattle.words.specs.Bytes.{tabulate, part}
+use Rattle.words.specs.Xor.{xorEach, xorPart}
+use Rattle.tree.specs.Lanes.{uWord, columnWord}
+use Rattle.words.proofs.Concat.{place-fits}
+use Rattle.words.proofs.Lists.{part-added, tabulate-lt, xorEach-length, xorPart-length}
+use Rattle.sender_columns.proofs.add_level.Statement.{statement}
+use Rattle.sender_columns.proofs.add_level.Tie as tie
+
+-- word i of u where its lane's side at a level is 1
+abbrev ofSide : ℕ → ℕ → List ℕ → List ℕ → ℕ → ℕ
+ofSide k level sides u i = getD (tabulate 4 (λ j. getD sides (j * k + level) 0)) (i % 4) 0 * getD u i 0
+
+-- column r is inside v
+fits : (s : tie.Start)
+    → let n = length (now (s .args .u)) in
+    let r = s .args .k - 1 - s .args .level in
+    (r * n + n ≤ length (now (s .args .v))) × (r * n ≤ length (now (s .args .v))) × (s .args .level + 1 + r ≡ s .args .k)
+fits s =
+    let n = length (now (s .args .u)) in
+    let r : ℕ = s .args .k - 1 - s .args .level in
+    let inside : r * n + n ≤ length (now (s .args .v)) = omega (arith, place-fits r (s .args .k) n (omega (arith, s .pre .0 .0)), s .pre .1 .3) in
+    (inside, omega (arith, inside), omega (arith, s .pre .0 .0))
+
+sub-r : tie.Need-sub-r
+sub-r c = search needs
+
+sub-r-2 : tie.Need-sub-r-2
+sub-r-2 c = search needs
+
+mul-at : tie.Need-mul-at
+mul-at c = omega (arith, fits (c .before .before .before .before))
+
+add-end : tie.Need-add-end
+add-end c = omega (arith, fits (c .before .before .before .before))
+
+mul-add-where : tie.Need-mul-add-where
+mul-add-where c = omega (arith, fits (c .before .before .before .before))
+
+sub-add-where : tie.Need-sub-add-where
+sub-add-where c = search needs
+
+part-add-where-start : tie.Need-part-add-where-start
+part-add-where-start c = search needs
+
+part-add-where-end : tie.Need-part-add-where-end
+part-add-where-end c = omega (arith, fits (c .before .before .before .before))
+
+of-four-requires : tie.Need-of-four-requires
+of-four-requires c κs = search needs
+
+add-where-requires : tie.Need-add-where-requires
+add-where-requires c κs =
+    let s = c .before .before .before .before .before .before .before in
+    let n = length (now (s .args .u)) in
+    let at : ℕ = (s .args .k - 1 - s .args .level) * n in
+    let size : at + n - at ≡ n = omega arith in (
+      mid-len at (at + n) (now (s .args .v)) (omega (arith, fits s)) ∙ size,
+      omega (arith, s .pre .1 .0),
+      λ i.
+          rw (c .of-four .ensures)
+          (tabulate-lt 4 2 (λ j. getD (now (s .args .sides)) (j * s .args .k + s .args .level) 0) (omega arith)
+          (λ j. s .pre .0 .3 (j * s .args .k + s .args .level)) i),
+    )
+
+-- the first addition
+added : (c : tie.After-add-where)
+    → let s = c .before .before .before .before .before .before .before .before in
+    let n = length (now (s .args .u)) in
+    let at = (s .args .k - 1 - s .args .level) * n in
+    let v′ = putMid at (at + n - at) (now (s .args .v)) (c .add-where .last .0) in
+    (v′ ≡ xorPart (now (s .args .v)) at n (ofSide (s .args .k) (s .args .level) (now (s .args .sides)) (now (s .args .u)))) × (length v′ ≡ length (now (s .args .v)))
+added c =
+    let s = c .before .before .before .before .before .before .before .before in
+    let v = now (s .args .v) in
+    let u = now (s .args .u) in
+    let n = length u in
+    let at : ℕ = (s .args .k - 1 - s .args .level) * n in
+    let is = part-added at (at + n) n v _ (ofSide (s .args .k) (s .args .level) (now (s .args .sides)) u) refl
+    (c .add-where .ensures
+    ∙ ap (λ (z : List ℕ). xorEach (part at (at + n - at) v) (λ i. getD z (i % 4) 0 * getD u i 0)) (c .before .of-four .ensures)) in
+    (is, ap length is ∙ xorPart-length v at n _ (fits s .0))
+
+mul-nodes-at : tie.Need-mul-nodes-at
+mul-nodes-at c = search needs
+
+nodes-at-requires : tie.Need-nodes-at-requires
+nodes-at-requires c κs = search needs
+
+walk-requires : tie.Need-walk-requires
+walk-requires c κs =
+    let s = c .before .before .before .before .before .before .before .before .before .before .before .before .before .before in
+    let v = added (c .before .before .before .before .before .before) in
+    (omega (arith, fits s .1, v .1), (s .pre .1 .0, s .pre .1 .1, s .pre .1 .2))
+
+-- the walk: u and v after it
+walked : (c : tie.After-walk)
+    → let s = c .before .before .before .before .before .before .before .before .before .before .before .before .before .before .before in
+    let u = now (s .args .u) in
+    let r = s .args .k - 1 - s .args .level in
+    let nodes = part (32 * s .args .level) 32 (now (s .args .s)) in
+    let v = xorPart (now (s .args .v)) (r * length u) (length u) (ofSide (s .args .k) (s .args .level) (now (s .args .sides)) u) in
+    (c .walk .last .1 .1 .1 .0 ≡ xorEach u (uWord (s .args .batch) r nodes))
+    × (length (c .walk .last .1 .1 .1 .0) ≡ length u)
+    × (c .walk .last .1 .1 .1 .1 .0 ≡ xorEach v (columnWord (s .args .batch) (length u) r nodes))
+    × (length (c .walk .last .1 .1 .1 .1 .0) ≡ length (now (s .args .v)))
+walked c =
+    let s = c .before .before .before .before .before .before .before .before .before .before .before .before .before .before .before in
+    let u = now (s .args .u) in
+    let n = length u in
+    let r : ℕ = s .args .k - 1 - s .args .level in
+    let nodes = part (32 * s .args .level) 32 (now (s .args .s)) in
+    let first = added (c .before .before .before .before .before .before .before) in
+    let found = c .before .before .before .before .nodes-at .ensures in
+    let made = c .walk .ensures .0 ∙ ap (λ (m : List ℕ). xorEach u (uWord (s .args .batch) r m)) found in
+    let columns = c .walk .ensures .1 ∙ ap₂ (λ (m z : List ℕ). xorEach z (columnWord (s .args .batch) n r m)) found (first .0) in (
+      made,
+      ap length made ∙ xorEach-length u _,
+      columns,
+      ap length columns ∙ xorEach-length _ _ ∙ xorPart-length (now (s .args .v)) (r * n) n _ (fits s .0),
+    )
+
+add-column-requires : tie.Need-add-column-requires
+add-column-requires c κs =
+    let w = walked (c .before .before .before .before .before .before) in
+    let s = c .before .before .before .before .before .before .before .before .before .before .before .before .before .before .before .before .before .before .before .before .before in
+    let r : ℕ = s .args .k - 1 - s .args .level in
+    rw (w .1, w .3) (fits s .0)
+
+same-length : tie.Need-same-length
+same-length c = search needs
+
+same-length-2 : tie.Need-same-length-2
+same-length-2 c = search needs
+
+returns : tie.Need-returns
+returns c =
+    let s = c .before .before .before .before .before .before .before .before .before .before .before .before .before .before .before .before .before .before .before .before .before .before .before .before in
+    let w = walked (c .before .before .before .before .before .before .before .before .before) in
+    let r : ℕ = s .args .k - 1 - s .args .level in
+    (w .0, c .before .before .add-column .ensures ∙ ap₂ (λ (n : ℕ) (z : List ℕ). xorPart z (r * n) n (λ i. getD (c .before .before .before .before .before .before .before .before .before .walk .last .1 .1 .1 .0) i 0)) (w .1) (w .2))
+
+pub add-level-spec : {M : Type 1} → statement M
+add-level-spec =
+    tie.close
+    (tie.spec
+    sub-r
+    sub-r-2
+    mul-at
+    add-end
+    mul-add-where
+    sub-add-where
+    part-add-where-start
+    part-add-where-end
+    of-four-requires
+    add-where-requires
+    mul-nodes-at
+    nodes-at-requires
+    walk-requires
+    add-column-requires
+    same-length
+    same-length-2
+    returns)
