@@ -1,38 +1,25 @@
 -- Words added under a mask for each lane. Assumes nothing.
-use mathlib.Core.Path.{_≡_, sym, ap, ap₂, _∙_, subst}
+use mathlib.Core.Path.{_≡_, sym, ap, ap₂, _∙_}
 use mathlib.Core.List.{List, [], _∷_}
-use Prim.Native.Nat.{ℕ, _+_, _-_, _*_, _%_, _^_, _<_}
+use Prim.Native.Nat.{ℕ, _-_, _*_, _%_, _^_, _≤_, _<_}
 use native.Mathlib.Omega.{arith}
 use lib.Bits.{bitXor, bitAnd}
-use lib.ListN.{length, getD, set, length-set}
+use lib.ListN.{length, getD}
 use Rattle.words.specs.Xor.{xorEach}
 use Rattle.words.proofs.Below.{below}
 use Rattle.words.proofs.Xor.{and-bit}
-use Rattle.words.proofs.Lists.{Added, updated-one, added-all, xorEach-cong}
+use Rattle.words.proofs.Lists.{Added, added-all, xorEach-cong}
 use Rattle.tree.specs.Sides.{Sides}
-
--- a place inside a list is inside it after an element is set
-pub in-set : (l : List ℕ) (i x j : ℕ) → j < length l → j < length (set l i x)
-in-set l i x j h = rw (length-set l i x) h
-
-pub in-two : (l : List ℕ) (i x i′ x′ j : ℕ) → j < length l → j < length (set (set l i x) i′ x′)
-in-two l i x i′ x′ j h = in-set (set l i x) i′ x′ j (in-set l i x j h)
-
-pub in-three : (l : List ℕ) (i x i′ x′ i″ x″ j : ℕ) → j < length l → j < length (set (set (set l i x) i′ x′) i″ x″)
-in-three l i x i′ x′ i″ x″ j h = in-set (set (set l i x) i′ x′) i″ x″ j (in-two l i x i′ x′ j h)
 
 -- word i of u under the mask of its lane
 abbrev pub masked : List ℕ → List ℕ → ℕ → ℕ
 masked u masks i = bitAnd (getD u i 0) (getD masks (i % 4) 0)
 
--- one more word, at a place of lane j
-pub masked-one : (l m u masks : List ℕ) (n at e j : ℕ) → at ≡ n → e ≡ at + 1 → at % 4 ≡ j → at < length l → Added l m (masked u masks) n
-    → Added l (set m at (bitXor (getD m at 0) (bitAnd (getD u at 0) (getD masks j 0)))) (masked u masks) e
-masked-one l m u masks n at e j here next lane lt a =
-    let a′ : Added l m (masked u masks) at = subst (λ (x : ℕ). Added l m (masked u masks) x) (sym here) a in
-    subst (λ (x : ℕ). Added l (set m at (bitXor (getD m at 0) (bitAnd (getD u at 0) (getD masks j 0)))) (masked u masks) x) (sym next)
-    (updated-one l m (λ k. bitXor (getD l k 0) (masked u masks k)) at _ lt
-    (ap₂ bitXor (a′ .rest at (omega arith)) (ap (λ (x : ℕ). bitAnd (getD u at 0) (getD masks x 0)) (sym lane))) a′)
+-- what is read and masked at a place of lane j, where the words from n on are as they were
+pub masked-at : (l m u masks : List ℕ) (n at j : ℕ) → n ≤ at → at % 4 ≡ j → Added l m (masked u masks) n
+    → bitXor (getD m at 0) (bitAnd (getD u at 0) (getD masks j 0)) ≡ bitXor (getD l at 0) (masked u masks at)
+masked-at l m u masks n at j le lane a =
+    ap₂ bitXor (a .rest at le) (ap (λ (x : ℕ). bitAnd (getD u at 0) (getD masks x 0)) (sym lane))
 
 -- masks that are all ones for side 1 and none for side 0 take u in the lanes whose side is 1
 pub masked-all : (l m u sides : List ℕ) (m0 m1 m2 m3 n : ℕ) → Sides sides → ((i : ℕ) → getD u i 0 < 2 ^ 32)

@@ -24,10 +24,14 @@ fn add_where(v: &mut [u32], u: &[u32], sides: [u8; 4])
     let m3 = tree::side::mask(sides[3]);
     let mut i = 0;
     while i < u.len() {
-        v[i] ^= u[i] & m0;
-        v[i + 1] ^= u[i + 1] & m1;
-        v[i + 2] ^= u[i + 2] & m2;
-        v[i + 3] ^= u[i + 3] & m3;
+        let a = v[i] ^ (u[i] & m0);
+        let b = v[i + 1] ^ (u[i + 1] & m1);
+        let c = v[i + 2] ^ (u[i + 2] & m2);
+        let d = v[i + 3] ^ (u[i + 3] & m3);
+        v[i] = a;
+        v[i + 1] = b;
+        v[i + 2] = c;
+        v[i + 3] = d;
         i += 4;
     }
 }

@@ -42,7 +42,7 @@ pub fn receiver_start(
         correction.len(),
     );
     if let Answer::Done = answer {
-        columns::receiver::start(r.width as usize, roots, batch, choices, table, correction);
+        receiver_columns::start(r.width as usize, roots, batch, choices, table, correction);
         let record = Record {
             width: r.width,
             last: batch,
@@ -78,7 +78,7 @@ pub fn sender_correct(
     );
     if let Answer::Done = answer {
         let len = 8 * (blocks as usize + 1);
-        columns::sender::correct(
+        sender_columns::correct(
             r.width as usize,
             len,
             batch,

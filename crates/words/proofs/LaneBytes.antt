@@ -72,6 +72,12 @@ lane-more l n t d i h lt long before x hx = here (decLt x i)
 abbrev pub laneSource : ℕ → ℕ → ℕ
 laneSource n i = i % 4 * n + (i - i % 4)
 
+-- the place of the word at x, which is in lane j, is that of its lane's first word and i more
+pub source-at : (n x i j place : ℕ) → x % 4 ≡ j → x ≡ i + j → place ≡ j * n + i → place ≡ laneSource n x
+source-at n x i j place e f here =
+    let from : i ≡ x - x % 4 = omega arith in
+    here ∙ ap₂ (λ (q r : ℕ). q * n + r) (sym e) from
+
 -- the place is inside the range
 pub source-fits : (n i : ℕ) → n % 4 ≡ 0 → i < n → laneSource n i + 4 ≤ 4 * n
 source-fits n i h lt =

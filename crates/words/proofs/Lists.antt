@@ -1,5 +1,5 @@
 -- Laws of lists with something added to each element, or laid over a part. Assumes nothing.
-use mathlib.Core.Path.{_≡_, refl, sym, ap, ap₂, _∙_}
+use mathlib.Core.Path.{_≡_, refl, sym, ap, ap₂, _∙_, subst}
 use mathlib.Core.List.{List, [], _∷_, _++_}
 use Prim.Native.Nat.{ℕ, zero, suc, _+_, _-_, _*_, _/_, _%_, _≤_, _<_}
 use native.Mathlib.Nat.{le-of-suc-le-suc, not-suc-le-zero, zero-add, suc-add, zero-mul, one-mul}
@@ -226,6 +226,32 @@ updated-one l m F n v h e u =
     here k (yes q) lt lt′ =
         ap (λ (j : ℕ). getD (set m n v) j 0) q ∙ getD-set-same m n v 0 (omega (arith, u .len)) ∙ e ∙ ap F (sym q)
     here k (no ne) lt lt′ = getD-set-other m n k v 0 ne ∙ u .done k (omega arith) lt′
+
+-- four more
+pub updated-four : (l m : List ℕ) (F : ℕ → ℕ) (n a b c d : ℕ) → n + 4 ≤ length l → a ≡ F n → b ≡ F (n + 1) → c ≡ F (n + 2) → d ≡ F (n + 3)
+    → Updated l m F n → Updated l (set (set (set (set m n a) (n + 1) b) (n + 2) c) (n + 3) d) F (n + 4)
+updated-four l m F n a b c d h ea eb ec ed u =
+    let second : n + 1 + 1 ≡ n + 2 = omega arith in
+    let third : n + 2 + 1 ≡ n + 3 = omega arith in
+    let last : n + 3 + 1 ≡ n + 4 = omega arith in
+    let m1 = set m n a in
+    let m2 = set m1 (n + 1) b in
+    let m3 = set m2 (n + 2) c in
+    subst (Updated l (set m3 (n + 3) d) F) last
+    (updated-one l m3 F (n + 3) d (omega arith) ed
+    (subst (Updated l m3 F) third
+    (updated-one l m2 F (n + 2) c (omega arith) ec
+    (subst (Updated l m2 F) second (updated-one l m1 F (n + 1) b (omega arith) eb (updated-one l m F n a (omega arith) ea u))))))
+
+-- a place inside a list is inside it after elements are set
+pub in-set : (l : List ℕ) (i x j : ℕ) → j < length l → j < length (set l i x)
+in-set l i x j h = rw (length-set l i x) h
+
+pub in-two : (l : List ℕ) (i x i′ x′ j : ℕ) → j < length l → j < length (set (set l i x) i′ x′)
+in-two l i x i′ x′ j h = in-set (set l i x) i′ x′ j (in-set l i x j h)
+
+pub in-three : (l : List ℕ) (i x i′ x′ i″ x″ j : ℕ) → j < length l → j < length (set (set (set l i x) i′ x′) i″ x″)
+in-three l i x i′ x′ i″ x″ j h = in-set (set (set l i x) i′ x′) i″ x″ j (in-two l i x i′ x′ j h)
 
 -- all of them: m is any list that has F k at each place
 pub updated-all : (l m r : List ℕ) (F : ℕ → ℕ) (n : ℕ) → length l ≤ n → length r ≡ length l

@@ -191,9 +191,15 @@ pub fn load_lanes(t: &mut [u32], s: &[u8])
     let n = t.len();
     let mut i = 0;
     while i < n {
-        let l = i % 4;
-        t[i] = load32(s, l * n + (i - l));
-        i += 1;
+        let a = load32(s, i);
+        let b = load32(s, n + i);
+        let c = load32(s, 2 * n + i);
+        let d = load32(s, 3 * n + i);
+        t[i] = a;
+        t[i + 1] = b;
+        t[i + 2] = c;
+        t[i + 3] = d;
+        i += 4;
     }
 }
 

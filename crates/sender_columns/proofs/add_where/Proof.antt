@@ -1,18 +1,16 @@
 -- `sender_columns::add_where` meets its contract: the words below i are added under the masks of their lanes. Assumes nothing.
-use mathlib.Core.Path.{_≡_, refl, sym}
-use denote.Ref.{now}
+use mathlib.Core.Path.{_≡_}
 use mathlib.Core.List.{List, [], _∷_}
-use Prim.Native.Nat.{ℕ, _+_, _-_, _*_, _%_, _≤_, _<_}
+use denote.Ref.{now}
+use Prim.Native.Nat.{ℕ, _+_, _-_, _%_, _≤_, _<_}
 use native.Mathlib.Omega.{arith}
+use lib.Bits.{bitXor}
 use lib.ListN.{length, getD}
 use borrow.Author.Needs.{needs}
-use Rattle.words.proofs.Lists.{Added, updated-none}
-use Rattle.sender_columns.proofs.Masked.{masked, masked-one, masked-all, in-set, in-two, in-three}
+use Rattle.words.proofs.Lists.{Added, updated-none, updated-four, in-set, in-two, in-three}
+use Rattle.sender_columns.proofs.Masked.{masked, masked-at, masked-all}
 use Rattle.sender_columns.proofs.add_where.Statement.{statement}
 use Rattle.sender_columns.proofs.add_where.Tie as tie
-use Rattle.sender_columns.proofs.add_where.Reads as reads
-use Rattle.sender_columns.proofs.add_where.Lts as lts
-use Rattle.tree.proofs.side.mask.Reads as mask-reads
 
 abbrev Inv-loop : tie.InvT-loop
 Inv-loop v₀ u m0 m1 m2 m3 i₀ v i = (i % 4 ≡ 0) × (i ≤ length u) × Added v₀ v (masked u (m0 ∷ m1 ∷ m2 ∷ m3 ∷ [])) i
@@ -55,17 +53,74 @@ room c =
     let here : w .i + 4 ≤ length (now (s .args .u)) = omega (arith, w .inv .0, w .inv .1, s .pre .1, c .loop-test .taken) in
     (omega (arith, here, w .inv .2 .len, s .pre .0), here)
 
+mul-a : tie.Need-mul-a Inv-loop μ-loop
+mul-a c = search needs
+
+slice-read-a : tie.Need-slice-read-a Inv-loop μ-loop
+slice-read-a c = search needs
+
+mul-a-2 : tie.Need-mul-a-2 Inv-loop μ-loop
+mul-a-2 c = search needs
+
+shared-slice-read-a : tie.Need-shared-slice-read-a Inv-loop μ-loop
+shared-slice-read-a c = search needs
+
+add-b : tie.Need-add-b Inv-loop μ-loop
+add-b c = search needs
+
+mul-b : tie.Need-mul-b Inv-loop μ-loop
+mul-b c = search needs
+
+slice-read-b : tie.Need-slice-read-b Inv-loop μ-loop
+slice-read-b c = search needs
+
+add-b-2 : tie.Need-add-b-2 Inv-loop μ-loop
+add-b-2 c = search needs
+
+mul-b-2 : tie.Need-mul-b-2 Inv-loop μ-loop
+mul-b-2 c = search needs
+
+shared-slice-read-b : tie.Need-shared-slice-read-b Inv-loop μ-loop
+shared-slice-read-b c = search needs
+
+add-c : tie.Need-add-c Inv-loop μ-loop
+add-c c = search needs
+
+mul-c : tie.Need-mul-c Inv-loop μ-loop
+mul-c c = search needs
+
+slice-read-c : tie.Need-slice-read-c Inv-loop μ-loop
+slice-read-c c = search needs
+
+add-c-2 : tie.Need-add-c-2 Inv-loop μ-loop
+add-c-2 c = search needs
+
+mul-c-2 : tie.Need-mul-c-2 Inv-loop μ-loop
+mul-c-2 c = search needs
+
+shared-slice-read-c : tie.Need-shared-slice-read-c Inv-loop μ-loop
+shared-slice-read-c c = search needs
+
+add-d : tie.Need-add-d Inv-loop μ-loop
+add-d c = search needs
+
+mul-d : tie.Need-mul-d Inv-loop μ-loop
+mul-d c = search needs
+
+slice-read-d : tie.Need-slice-read-d Inv-loop μ-loop
+slice-read-d c = search needs
+
+add-d-2 : tie.Need-add-d-2 Inv-loop μ-loop
+add-d-2 c = search needs
+
+mul-d-2 : tie.Need-mul-d-2 Inv-loop μ-loop
+mul-d-2 c = search needs
+
+shared-slice-read-d : tie.Need-shared-slice-read-d Inv-loop μ-loop
+shared-slice-read-d c = search needs
+
 mul-v : tie.Need-mul-v Inv-loop μ-loop
 mul-v c = search needs
-
-shared-slice-read-v : tie.Need-shared-slice-read-v Inv-loop μ-loop
-shared-slice-read-v c = search needs
-
-mul-v-2 : tie.Need-mul-v-2 Inv-loop μ-loop
-mul-v-2 c = search needs
-
-slice-read-v : tie.Need-slice-read-v Inv-loop μ-loop
-slice-read-v c = search needs
 
 slice-write-v : tie.Need-slice-write-v Inv-loop μ-loop
 slice-write-v c = search needs
@@ -73,77 +128,32 @@ slice-write-v c = search needs
 add-v : tie.Need-add-v Inv-loop μ-loop
 add-v c = search needs
 
-mul-v-3 : tie.Need-mul-v-3 Inv-loop μ-loop
-mul-v-3 c = search needs
+mul-v-2 : tie.Need-mul-v-2 Inv-loop μ-loop
+mul-v-2 c = search needs
 
-shared-slice-read-v-2 : tie.Need-shared-slice-read-v-2 Inv-loop μ-loop
-shared-slice-read-v-2 c = search needs
+slice-write-v-2 : tie.Need-slice-write-v-2 Inv-loop μ-loop
+slice-write-v-2 c =
+    let w = c .before .before .before .before .before .before .before .before .before .loop in
+    let here : w .i + 1 < length (w .v) = omega (arith, room (c .before .before .before .before .before .before .before .before)) in
+    in-set (w .v) (w .i) _ (w .i + 1) here
 
 add-v-2 : tie.Need-add-v-2 Inv-loop μ-loop
 add-v-2 c = search needs
 
-mul-v-4 : tie.Need-mul-v-4 Inv-loop μ-loop
-mul-v-4 c = search needs
+mul-v-3 : tie.Need-mul-v-3 Inv-loop μ-loop
+mul-v-3 c = search needs
 
-slice-read-v-2 : tie.Need-slice-read-v-2 Inv-loop μ-loop
-slice-read-v-2 c =
-    let w = c .before .before .before .before .before .loop in
-    let here : w .i + 1 < length (w .v) = omega (arith, room (c .before .before .before .before)) in
-    in-set (w .v) (w .i) _ (w .i + 1) here
-
-slice-write-v-2 : tie.Need-slice-write-v-2 Inv-loop μ-loop
-slice-write-v-2 c =
-    let w = c .before .before .before .before .before .loop in
-    let here : w .i + 1 < length (w .v) = omega (arith, room (c .before .before .before .before)) in
-    in-set (w .v) (w .i) _ (w .i + 1) here
+slice-write-v-3 : tie.Need-slice-write-v-3 Inv-loop μ-loop
+slice-write-v-3 c =
+    let w = c .before .before .before .before .before .before .before .before .before .loop in
+    let here : w .i + 2 < length (w .v) = omega (arith, room (c .before .before .before .before .before .before .before .before)) in
+    in-two (w .v) (w .i) _ (w .i + 1) _ (w .i + 2) here
 
 add-v-3 : tie.Need-add-v-3 Inv-loop μ-loop
 add-v-3 c = search needs
 
-mul-v-5 : tie.Need-mul-v-5 Inv-loop μ-loop
-mul-v-5 c = search needs
-
-shared-slice-read-v-3 : tie.Need-shared-slice-read-v-3 Inv-loop μ-loop
-shared-slice-read-v-3 c = search needs
-
-add-v-4 : tie.Need-add-v-4 Inv-loop μ-loop
-add-v-4 c = search needs
-
-mul-v-6 : tie.Need-mul-v-6 Inv-loop μ-loop
-mul-v-6 c = search needs
-
-slice-read-v-3 : tie.Need-slice-read-v-3 Inv-loop μ-loop
-slice-read-v-3 c =
-    let w = c .before .before .before .before .before .before .before .loop in
-    let here : w .i + 2 < length (w .v) = omega (arith, room (c .before .before .before .before .before .before)) in
-    in-two (w .v) (w .i) _ (w .i + 1) _ (w .i + 2) here
-
-slice-write-v-3 : tie.Need-slice-write-v-3 Inv-loop μ-loop
-slice-write-v-3 c =
-    let w = c .before .before .before .before .before .before .before .loop in
-    let here : w .i + 2 < length (w .v) = omega (arith, room (c .before .before .before .before .before .before)) in
-    in-two (w .v) (w .i) _ (w .i + 1) _ (w .i + 2) here
-
-add-v-5 : tie.Need-add-v-5 Inv-loop μ-loop
-add-v-5 c = search needs
-
-mul-v-7 : tie.Need-mul-v-7 Inv-loop μ-loop
-mul-v-7 c = search needs
-
-shared-slice-read-v-4 : tie.Need-shared-slice-read-v-4 Inv-loop μ-loop
-shared-slice-read-v-4 c = search needs
-
-add-v-6 : tie.Need-add-v-6 Inv-loop μ-loop
-add-v-6 c = search needs
-
-mul-v-8 : tie.Need-mul-v-8 Inv-loop μ-loop
-mul-v-8 c = search needs
-
-slice-read-v-4 : tie.Need-slice-read-v-4 Inv-loop μ-loop
-slice-read-v-4 c =
-    let w = c .before .before .before .before .before .before .before .before .before .loop in
-    let here : w .i + 3 < length (w .v) = omega (arith, room (c .before .before .before .before .before .before .before .before)) in
-    in-three (w .v) (w .i) _ (w .i + 1) _ (w .i + 2) _ (w .i + 3) here
+mul-v-4 : tie.Need-mul-v-4 Inv-loop μ-loop
+mul-v-4 c = search needs
 
 slice-write-v-4 : tie.Need-slice-write-v-4 Inv-loop μ-loop
 slice-write-v-4 c =
@@ -162,16 +172,18 @@ loop-again c =
     let s = c .before .before .before .before .before .before .before .before .before .before .before .before .before .before .before .before in
     let w = c .before .before .before .before .before .before .before .before .before .loop in
     let here = room (c .before .before .before .before .before .before .before .before) in
-    let n : length (now (s .args .v)) ≡ length (w .v) = sym (w .inv .2 .len) in
     let l = now (s .args .v) in
     let u = now (s .args .u) in
     let i = w .i in
-    let masks : List ℕ = c .before .before .before .before .before .before .before .before .before .before .before .before .before .mask .result ∷ c .before .before .before .before .before .before .before .before .before .before .before .before .mask2 .result ∷ c .before .before .before .before .before .before .before .before .before .before .before .mask3 .result ∷ c .before .before .before .before .before .before .before .before .before .before .mask4 .result ∷ [] in
-    let first = masked-one l (w .v) u masks i i (i + 1) 0 refl refl (w .inv .0) (omega (arith, here, n)) (w .inv .2) in
-    let second = masked-one l _ u masks (i + 1) (i + 1) (i + 2) 1 refl (omega arith) (omega (arith, w .inv .0)) (omega (arith, here, n)) first in
-    let third = masked-one l _ u masks (i + 2) (i + 2) (i + 3) 2 refl (omega arith) (omega (arith, w .inv .0)) (omega (arith, here, n)) second in
-    let fourth = masked-one l _ u masks (i + 3) (i + 3) (i + 4) 3 refl (omega arith) (omega (arith, w .inv .0)) (omega (arith, here, n)) third in
-    (omega (arith, w .inv .0), here .1, fourth)
+    let masks : List ℕ = c .before .before .before .before .before .before .before .before .before .before .before .before .before .mask .result ∷ c .before .before .before .before .before .before .before .before .before .before .before .before .mask2 .result ∷ c .before .before .before .before .before .before .before .before .before .before .before .mask3 .result ∷ c .before .before .before .before .before .before .before .before .before .before .mask4 .result ∷ [] in (
+      omega (arith, w .inv .0),
+      here .1,
+      updated-four l (w .v) (λ k. bitXor (getD l k 0) (masked u masks k)) i _ _ _ _ (omega (arith, here, w .inv .2 .len))
+          (masked-at l (w .v) u masks i i 0 (omega arith) (w .inv .0) (w .inv .2))
+          (masked-at l (w .v) u masks i (i + 1) 1 (omega arith) (omega (arith, w .inv .0)) (w .inv .2))
+          (masked-at l (w .v) u masks i (i + 2) 2 (omega arith) (omega (arith, w .inv .0)) (w .inv .2))
+          (masked-at l (w .v) u masks i (i + 3) 3 (omega arith) (omega (arith, w .inv .0)) (w .inv .2)) (w .inv .2),
+    )
 
 same-length : tie.Need-same-length Inv-loop μ-loop
 same-length c = c .before .loop .inv .2 .len
@@ -180,9 +192,8 @@ returns : tie.Need-returns Inv-loop μ-loop
 returns c =
     let s = c .before .before .before .before .before .before .before .before in
     let w = c .before .loop in
-    let k = c .before .before .before .before .before .before .shared-slice-known .given in
-    masked-all (now (s .args .v)) (w .v) (now (s .args .u)) (s .args .t3) _ _ _ _ (w .i) (s .pre .2) (λ i. k i .fits)
-    (c .before .before .before .before .before .mask .ensures) (c .before .before .before .before .mask2 .ensures) (c .before .before .before .mask3 .ensures) (c .before .before .mask4 .ensures)
+    masked-all (now (s .args .v)) (w .v) (now (s .args .u)) (s .args .t3) _ _ _ _ (w .i) (s .pre .2)
+    (λ i. c .before .before .before .before .before .before .shared-slice-known .given i .fits) (c .before .before .before .before .before .mask .ensures) (c .before .before .before .before .mask2 .ensures) (c .before .before .before .mask3 .ensures) (c .before .before .mask4 .ensures)
     (omega (arith, w .inv .1, s .pre .0)) (w .inv .2)
 
 pub add-where-spec : {M : Type 1} → statement M
@@ -200,31 +211,38 @@ add-where-spec =
     array-read-mask-4
     mask-requires-4
     loop-holds
+    mul-a
+    slice-read-a
+    mul-a-2
+    shared-slice-read-a
+    add-b
+    mul-b
+    slice-read-b
+    add-b-2
+    mul-b-2
+    shared-slice-read-b
+    add-c
+    mul-c
+    slice-read-c
+    add-c-2
+    mul-c-2
+    shared-slice-read-c
+    add-d
+    mul-d
+    slice-read-d
+    add-d-2
+    mul-d-2
+    shared-slice-read-d
     mul-v
-    shared-slice-read-v
-    mul-v-2
-    slice-read-v
     slice-write-v
     add-v
-    mul-v-3
-    shared-slice-read-v-2
-    add-v-2
-    mul-v-4
-    slice-read-v-2
+    mul-v-2
     slice-write-v-2
-    add-v-3
-    mul-v-5
-    shared-slice-read-v-3
-    add-v-4
-    mul-v-6
-    slice-read-v-3
+    add-v-2
+    mul-v-3
     slice-write-v-3
-    add-v-5
-    mul-v-7
-    shared-slice-read-v-4
-    add-v-6
-    mul-v-8
-    slice-read-v-4
+    add-v-3
+    mul-v-4
     slice-write-v-4
     add-i
     loop-less
