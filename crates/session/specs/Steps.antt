@@ -44,8 +44,8 @@ openAnswer r batch blocks lengths =
     inOrder (widthAllowed (r .width)) (eqb (r .stage) stageReady) (both (ltb 0 batch) (ltb (r .last) batch)) (blocksAllowed blocks) lengths
 
 -- done sets last, blocks and stage 1
-abbrev pub opened : Record → ℕ → ℕ → Record
-opened r batch blocks = record { width = r .width; last = batch; blocks = blocks; stage = stageOpen }
+abbrev pub withBatch : Record → ℕ → ℕ → Record
+withBatch r batch blocks = record { width = r .width; last = batch; blocks = blocks; stage = stageOpen }
 
 -- chooser start: roots, batch and P; u_0 out L, V out 128 × L, correction out (n-1) × L
 unfoldable pub startLengths : ℕ → ℕ → ℕ → ℕ → ℕ → ℕ → Bool
@@ -56,7 +56,7 @@ startLengths k len roots choices table correction =
 pub record ReceiverStart (r : Record) (roots : List ℕ) (batch blocks : ℕ) (choices table correction : List ℕ)
     (answer : Answer) (r′ : Record) (choices′ table′ correction′ : List ℕ) : Type 0 where
   pub answered : answer ≡ openAnswer r batch blocks (startLengths (r .width) (columnLength blocks) (length roots) (length choices) (length table) (length correction))
-  pub recorded : r′ ≡ whenDone answer (opened r batch blocks) r
+  pub recorded : r′ ≡ whenDone answer (withBatch r batch blocks) r
   pub chosen : choices′ ≡ whenDone answer (choicesOf (r .width) batch (columnLength blocks) roots) choices
   pub filled : table′ ≡ whenDone answer (receiverTable (r .width) batch (columnLength blocks) roots) table
   pub corrected : correction′ ≡ whenDone answer (correctionOf (r .width) batch (columnLength blocks) roots) correction
@@ -70,7 +70,7 @@ correctLengths k len siblings delta correction table =
 pub record SenderCorrect (r : Record) (siblings delta : List ℕ) (batch blocks : ℕ) (correction table : List ℕ)
     (answer : Answer) (r′ : Record) (table′ : List ℕ) : Type 0 where
   pub answered : answer ≡ openAnswer r batch blocks (correctLengths (r .width) (columnLength blocks) (length siblings) (length delta) (length correction) (length table))
-  pub recorded : r′ ≡ whenDone answer (opened r batch blocks) r
+  pub recorded : r′ ≡ whenDone answer (withBatch r batch blocks) r
   pub filled : table′ ≡ whenDone answer (senderTable (r .width) batch (columnLength blocks) siblings delta correction) table
 
 -- ---- the two that end it
@@ -80,8 +80,8 @@ abbrev pub endAnswer : Record → Bool → Answer
 endAnswer r lengths = inOrder (widthAllowed (r .width)) (eqb (r .stage) stageOpen) (ltb 0 (r .last)) (blocksAllowed (r .blocks)) lengths
 
 -- done sets ready, blocks 0
-abbrev pub ended : Record → Record
-ended r = record { width = r .width; last = r .last; blocks = 0; stage = stageReady }
+abbrev pub withoutBatch : Record → Record
+withoutBatch r = record { width = r .width; last = r .last; blocks = 0; stage = stageReady }
 
 -- chooser answer: key, u_0, V; check message out 1,032, pads out 2,048 × P
 unfoldable pub answerLengths : ℕ → ℕ → ℕ → ℕ → ℕ → Bool
@@ -92,6 +92,6 @@ answerLengths blocks choices table message pads =
 pub record ReceiverAnswer (r : Record) (key : ℕ) (choices table message pads : List ℕ)
     (answer : Answer) (r′ : Record) (message′ pads′ : List ℕ) : Type 0 where
   pub answered : answer ≡ endAnswer r (answerLengths (r .blocks) (length choices) (length table) (length message) (length pads))
-  pub recorded : r′ ≡ whenDone answer (ended r) r
+  pub recorded : r′ ≡ whenDone answer (withoutBatch r) r
   pub told : message′ ≡ whenDone answer (checkMessage (columnLength (r .blocks)) key choices table) message
   pub padded : pads′ ≡ whenDone answer (receiverPads (r .blocks) (r .last) table) pads

@@ -2,7 +2,8 @@
 mod answers;
 
 use answer::Answer;
-ghost use Rattle.session.specs.Steps.{ReceiverStart, SenderCorrect, ReceiverAnswer};
+ghost use mathlib.Core.Path.{_≡_};
+ghost use Rattle.session.specs.Steps.{withBatch, withoutBatch, ReceiverStart, SenderCorrect, ReceiverAnswer};
 
 // The record of a session: its width, the last batch number (0 for none), the blocks of the open batch, and the stage (0 ready, 1 open,
 // 2 closed). It may hold any numbers.
@@ -18,6 +19,30 @@ pub struct Record {
 pub struct Stepped {
     pub answer: Answer,
     pub record: Record,
+}
+
+// The record of a batch that is opened.
+fn opened(r: Record, batch: u32, blocks: u32) -> Record
+    ensures { λ x. ⌜ x ≡ withBatch r batch blocks ⌝ }
+{
+    Record {
+        width: r.width,
+        last: batch,
+        blocks,
+        stage: 1,
+    }
+}
+
+// And of one that is ended.
+fn ended(r: Record) -> Record
+    ensures { λ x. ⌜ x ≡ withoutBatch r ⌝ }
+{
+    Record {
+        width: r.width,
+        last: r.last,
+        blocks: 0,
+        stage: 0,
+    }
 }
 
 // The receiver's start: choices, table and correction of a new batch.
@@ -43,12 +68,7 @@ pub fn receiver_start(
     );
     if let Answer::Done = answer {
         receiver_columns::start(r.width as usize, roots, batch, choices, table, correction);
-        let record = Record {
-            width: r.width,
-            last: batch,
-            blocks,
-            stage: 1,
-        };
+        let record = opened(r, batch, blocks);
         Stepped { answer, record }
     } else {
         Stepped { answer, record: r }
@@ -87,12 +107,7 @@ pub fn sender_correct(
             correction,
             table,
         );
-        let record = Record {
-            width: r.width,
-            last: batch,
-            blocks,
-            stage: 1,
-        };
+        let record = opened(r, batch, blocks);
         Stepped { answer, record }
     } else {
         Stepped { answer, record: r }
@@ -114,12 +129,7 @@ pub fn receiver_answer(
     if let Answer::Done = answer {
         consistency::write_message(key, choices, table, message);
         pads::receiver_pads(r.last as u64, r.blocks as usize, table, pads);
-        let record = Record {
-            width: r.width,
-            last: r.last,
-            blocks: 0,
-            stage: 0,
-        };
+        let record = ended(r);
         Stepped { answer, record }
     } else {
         Stepped { answer, record: r }

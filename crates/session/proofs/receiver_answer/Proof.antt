@@ -12,7 +12,7 @@ use Rattle.answer.proofs.Laws.{is-done, not-done}
 use Rattle.tree.specs.Layout.{columns, columnLength}
 use Rattle.consistency.specs.Message.{checkMessage}
 use Rattle.pads.specs.Pads.{receiverPads}
-use Rattle.session.specs.Steps.{ended}
+use Rattle.session.specs.Steps.{withoutBatch}
 use Rattle.session.proofs.Order.{all-hold, blocks-fit, answer-fits}
 use Rattle.session.proofs.receiver_answer.Statement.{statement}
 use Rattle.session.proofs.receiver_answer.Tie as tie
@@ -54,6 +54,9 @@ receiver-pads-requires c κs =
     let h = fits (c .before .before .before .before .before .before .before .before) in
     (h .0, h .2, h .4)
 
+ended-requires : tie.Need-ended-requires
+ended-requires c κs = search needs
+
 same-length : tie.Need-same-length
 same-length c = search needs
 
@@ -62,13 +65,13 @@ same-length-2 c = search needs
 
 returns : tie.Need-returns
 returns c =
-    let m = c .before .before .before .before .before .before .before .before .before .before .before in
-    let s = c .before .before .before .before .before .before .before .before .before .before .before .before .before .before .before .before .before in
+    let m = c .before .before .before .before .before .before .before .before .before .before .before .before in
+    let s = c .before .before .before .before .before .before .before .before .before .before .before .before .before .before .before .before .before .before in
     record {
       answered = m .before .answer-answer .ensures;
-      recorded = rw (done m);
-      told = c .before .before .before .before .before .before .before .before .write-message .ensures ∙ ap (λ (n : ℕ). checkMessage n (s .args .key) (now (s .args .choices)) (now (s .args .table))) (fits m .1) ∙ rw (done m);
-      padded = c .before .before .receiver-pads .ensures ∙ rw (done m);
+      recorded = c .ended .ensures ∙ rw (done m);
+      told = c .before .before .before .before .before .before .before .before .before .write-message .ensures ∙ ap (λ (n : ℕ). checkMessage n (s .args .key) (now (s .args .choices)) (now (s .args .table))) (fits m .1) ∙ rw (done m);
+      padded = c .before .before .before .receiver-pads .ensures ∙ rw (done m);
     }
 
 returns-2 : tie.Need-returns-2
@@ -79,7 +82,7 @@ returns-2 c =
     let table = now (s .args .table) in
     record {
       answered = c .before .answer-answer .ensures;
-      recorded = not-done a (ended (s .args .r)) (s .args .r) (c .match .keys2);
+      recorded = not-done a (withoutBatch (s .args .r)) (s .args .r) (c .match .keys2);
       told = not-done a (checkMessage (columnLength blocks) (s .args .key) (now (s .args .choices)) table) (now (s .args .message)) (c .match .keys2);
       padded = not-done a (receiverPads blocks (s .args .r .last) table) (now (s .args .pads)) (c .match .keys2);
     }
@@ -94,6 +97,7 @@ receiver-answer-spec =
     cast-receiver-pads
     cast-receiver-pads-2
     receiver-pads-requires
+    ended-requires
     same-length
     same-length-2
     returns

@@ -11,7 +11,7 @@ use Rattle.answer.proofs.Laws.{is-done, not-done}
 use mathlib.Core.Bool.{true}
 use Rattle.tree.specs.Layout.{columns, treesOf, columnLength}
 use Rattle.columns.specs.Columns.{choicesOf, receiverTable, correctionOf}
-use Rattle.session.specs.Steps.{opened}
+use Rattle.session.specs.Steps.{withBatch}
 use Rattle.session.proofs.Order.{all-hold, blocks-fit, start-fits}
 use Rattle.session.proofs.receiver_start.Statement.{statement}
 use Rattle.session.proofs.receiver_start.Tie as tie
@@ -53,6 +53,9 @@ start-requires c κs =
       h .5 ∙ ap (λ (n : ℕ). (treesOf (s .args .r .width) - 1) * n) (sym (h .3)),
     )
 
+opened-requires : tie.Need-opened-requires
+opened-requires c κs = search needs
+
 same-length : tie.Need-same-length
 same-length c = search needs
 
@@ -64,15 +67,15 @@ same-length-3 c = search needs
 
 returns : tie.Need-returns
 returns c =
-    let m = c .before .before .before .before .before .before .before .before .before .before .before .before in
-    let s = c .before .before .before .before .before .before .before .before .before .before .before .before .before .before .before .before .before .before in
+    let m = c .before .before .before .before .before .before .before .before .before .before .before .before .before in
+    let s = c .before .before .before .before .before .before .before .before .before .before .before .before .before .before .before .before .before .before .before in
     let k = s .args .r .width in
     let roots = now (s .args .roots) in
     let len = fits m .3 in
-    let made = c .before .before .before .before .before .before .start .ensures in
+    let made = c .before .before .before .before .before .before .before .start .ensures in
     record {
       answered = m .before .start-answer .ensures;
-      recorded = rw (done m);
+      recorded = c .opened .ensures ∙ rw (done m);
       chosen = made .0 ∙ ap (λ (n : ℕ). choicesOf k (s .args .batch) n roots) len ∙ rw (done m);
       filled = made .1 .0 ∙ ap (λ (n : ℕ). receiverTable k (s .args .batch) n roots) len ∙ rw (done m);
       corrected = made .1 .1 ∙ ap (λ (n : ℕ). correctionOf k (s .args .batch) n roots) len ∙ rw (done m);
@@ -87,7 +90,7 @@ returns-2 c =
     let roots = now (s .args .roots) in
     record {
       answered = c .before .start-answer .ensures;
-      recorded = not-done a (opened (s .args .r) (s .args .batch) (s .args .blocks)) (s .args .r) (c .match .keys2);
+      recorded = not-done a (withBatch (s .args .r) (s .args .batch) (s .args .blocks)) (s .args .r) (c .match .keys2);
       chosen = not-done a (choicesOf k (s .args .batch) len roots) (now (s .args .choices)) (c .match .keys2);
       filled = not-done a (receiverTable k (s .args .batch) len roots) (now (s .args .table)) (c .match .keys2);
       corrected = not-done a (correctionOf k (s .args .batch) len roots) (now (s .args .correction)) (c .match .keys2);
@@ -101,6 +104,7 @@ receiver-start-spec =
     enum-told
     cast-start
     start-requires
+    opened-requires
     same-length
     same-length-2
     same-length-3

@@ -11,7 +11,7 @@ use Rattle.answer.specs.Answer.{widthAllowed}
 use Rattle.answer.proofs.Laws.{is-done, not-done}
 use Rattle.tree.specs.Layout.{columns, treesOf, columnLength}
 use Rattle.columns.specs.Columns.{senderTable}
-use Rattle.session.specs.Steps.{opened}
+use Rattle.session.specs.Steps.{withBatch}
 use Rattle.session.proofs.Order.{all-hold, blocks-fit, correct-fits}
 use Rattle.session.proofs.sender_correct.Statement.{statement}
 use Rattle.session.proofs.sender_correct.Tie as tie
@@ -51,16 +51,19 @@ correct-requires c κs =
     let h = fits (c .before .before .before) in
     (h .0, omega arith, omega (arith, h .1), omega arith, h .2, h .3, h .4, h .5)
 
+opened-requires : tie.Need-opened-requires
+opened-requires c κs = search needs
+
 same-length : tie.Need-same-length
 same-length c = search needs
 
 returns : tie.Need-returns
 returns c =
-    let m = c .before .before .before .before .before .before in
+    let m = c .before .before .before .before .before .before .before in
     record {
       answered = m .before .correct-answer .ensures;
-      recorded = rw (done m);
-      filled = c .before .before .correct .ensures ∙ rw (done m);
+      recorded = c .opened .ensures ∙ rw (done m);
+      filled = c .before .before .before .correct .ensures ∙ rw (done m);
     }
 
 returns-2 : tie.Need-returns-2
@@ -70,7 +73,7 @@ returns-2 c =
     let made = senderTable (s .args .r .width) (s .args .batch) (columnLength (s .args .blocks)) (now (s .args .siblings)) (now (s .args .delta)) (now (s .args .correction)) in
     record {
       answered = c .before .correct-answer .ensures;
-      recorded = not-done a (opened (s .args .r) (s .args .batch) (s .args .blocks)) (s .args .r) (c .match .keys2);
+      recorded = not-done a (withBatch (s .args .r) (s .args .batch) (s .args .blocks)) (s .args .r) (c .match .keys2);
       filled = not-done a made (now (s .args .table)) (c .match .keys2);
     }
 
@@ -84,6 +87,7 @@ sender-correct-spec =
     mul-len
     cast-correct
     correct-requires
+    opened-requires
     same-length
     returns
     returns-2)
