@@ -6,7 +6,7 @@ use Prim.Native.Nat.{ℕ, zero, suc, _+_, _-_, _*_, _/_, _%_, _^_, _<_}
 use native.Mathlib.Nat.{mul-comm, div-add-mod'}
 use native.Mathlib.Omega.{arith}
 use lib.Bits.{bitXor, xor-zero-r}
-use lib.ListN.{length, getD}
+use lib.ListN.{getD}
 use Rattle.words.specs.Bytes.{part, concat}
 use Rattle.words.specs.Bits.{bitOf, bitAt}
 use Rattle.words.specs.Xor.{xorList, scale}
@@ -15,18 +15,15 @@ use Rattle.words.proofs.Sums.{sumTo-same, ofBits-lt, ofBits-bit}
 use Rattle.words.proofs.Lists.{tabulate-at, xorEach-at, xorEach-is, scale-at}
 use Rattle.words.proofs.Concat.{concat-length, concat-part}
 use Rattle.tree.specs.Tree.{sumBelow, streamByte}
-use Rattle.tree.specs.Path.{pathNode, siblingNode, siblingNumber, sideOf}
+use Rattle.tree.specs.Path.{siblingNode, siblingNumber}
 use Rattle.tree.specs.Columns.{uAt, receiverAt}
 use Rattle.tree.specs.Layout.{columns, treesOf, rootOf, deltaOf, treePart, columnOf}
-use Rattle.tree.proofs.Sums.{child-length}
+use Rattle.tree.proofs.Path.{sibling-length}
 use Rattle.tree.proofs.Columns.{sender-beside, column-identity}
 use Rattle.columns.specs.Columns.{uOf, choicesOf, receiverColumn, receiverTable, correctionOf, besideAt, treeCorrection, senderColumn, senderTable}
 use Rattle.columns.proofs.Tables.{uOf-length, receiverColumn-length, senderColumn-length, correction-part, column-tree, receiver-table, sender-table}
 
 -- ---- one tree
-
-sibling-length : (k : ℕ) (root : List ℕ) (d l : ℕ) → length (siblingNode k root d l) ≡ 32
-sibling-length k root d l = child-length (sideOf k d l) (pathNode k root d l) (omega arith)
 
 -- the siblings one after the other give the sender's first column, so the receiver's ⊕ d's bit times u
 beside-honest : (k : ℕ) (root : List ℕ) (d : ℕ) (f : ℕ → List ℕ → ℕ) (b : ℕ) → d < 2 ^ k

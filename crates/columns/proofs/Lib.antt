@@ -1,4 +1,3 @@
 -- The laws that other crates cite.
-pub mod Layouts
 pub mod Tables
 pub mod Honest

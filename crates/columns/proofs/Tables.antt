@@ -44,6 +44,10 @@ module _ (k batch len : ℕ) (roots : List ℕ) where
   unfolding correctionOf treeCorrection
   correction-part i h = concat-part nextCorrection len (treesOf k - 1) (λ i h. next-length i) i (omega arith)
 
+-- at most 8 columns of at most 128 elements
+pub columns-fit : (k m : ℕ) → k ≤ 8 → m ≤ 128 → k * m ≤ 1024
+columns-fit k m hk hm = omega (arith, mul-le-mul-right m hk)
+
 -- ---- tables
 
 -- column c belongs to tree c / k, bit c % k

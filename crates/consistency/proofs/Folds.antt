@@ -1,28 +1,18 @@
 -- How the message grows: by words that are laid over its front, and by four columns' folds at once. Assumes nothing.
-use mathlib.Core.Path.{_≡_, refl, sym, ap, ap₂, _∙_}
-use mathlib.Core.List.{List, _++_, append-nil, append-assoc}
+use mathlib.Core.Path.{_≡_, refl, sym, ap, _∙_}
+use mathlib.Core.List.{List, _++_}
 use Prim.Native.Nat.{ℕ, _+_, _-_, _*_, _≤_, _<_}
 use native.Mathlib.Nat.{zero-mul, one-mul}
 use native.Mathlib.Omega.{arith}
 use native.Mathlib.Numerals.{add-one}
-use lib.ListN.{length, getD, take, drop, drop-of-length-le, length-append}
-use lib.Seq.{take-at, length-take-le}
-use borrow.Rule.Slice.PartMut.{putMid, post-is, same-len-mid, mid-len}
+use lib.ListN.{length, getD, take}
 use Rattle.words.specs.Bytes.{bytes, part, put, concat}
 use Rattle.words.proofs.Below.{below}
-use Rattle.words.proofs.Lists.{put-length}
+use Rattle.words.proofs.Lists.{put-length, put-front}
 use Rattle.words.proofs.Concat.{concat-same, place-part}
 use Rattle.gf64.specs.Field.{foldBytes}
 use Rattle.gf64.specs.Table.{foldsOf}
 use Rattle.tree.specs.Layout.{columnOf}
-
--- a range laid over a place stands after what was before that place
-pub put-front : (d : List ℕ) (at : ℕ) (s : List ℕ) → at ≤ length d → take (at + length s) (put d at s) ≡ take at d ++ s
-unfolding put
-put-front d at s h =
-    ap (take (at + length s)) (sym (append-assoc (take at d) s (drop (at + length s) d)))
-    ∙ take-at (take at d ++ s) (drop (at + length s) d) (at + length s)
-    (length-append (take at d) s ∙ ap (λ (n : ℕ). n + length s) (length-take-le at d h))
 
 -- a word in progress: the first i words are laid out, and one more is
 pub word-more : (f : ℕ → ℕ) (d : List ℕ) (i : ℕ) → 8 * i + 8 ≤ length d → take (8 * i) d ≡ concat i (λ j. bytes 8 (f j))
@@ -60,21 +50,3 @@ four-folds g len i table x made =
         let e1 : len ≡ 1 * len = sym (one-mul len) in
         below (λ (j : ℕ). getD (foldsOf g len s) j 0 ≡ foldBytes g (part (j * len) len s)) 4
         ((((tt, ap (λ (a : ℕ). foldBytes g (part a len s)) e0), ap (λ (a : ℕ). foldBytes g (part a len s)) e1), refl), refl)
-
--- ---- parts that were lent and come back
-
--- a range keeps its length
-pub kept-length : (a e : ℕ) (xs ys new : List ℕ) → ys ≡ new → length new ≡ e - a → e ≤ length xs
-    → length (putMid a (e - a) xs ys) ≡ length xs
-kept-length a e xs ys new made size fits =
-    same-len-mid a (e - a) xs ys (ap length made ∙ size ∙ sym (mid-len a e xs fits))
-
--- a range has s laid over its front, and all the rest comes back as new
-pub after-front : (d s xs ys new : List ℕ) (n e : ℕ) → xs ≡ put d 0 s → ys ≡ new → length s ≡ n → length d ≡ e → n ≤ e
-    → putMid n (e - n) xs ys ≡ s ++ new
-after-front d s xs ys new n e laid made long size h =
-    let whole : n ≡ 0 + length s = omega arith in
-    let front = ap₂ (λ (k : ℕ) (l : List ℕ). take k l) whole laid ∙ put-front d 0 s (omega arith) in
-    let kept = ap length laid ∙ put-length d 0 s (omega arith) ∙ size in
-    ap₂ (λ (p q : List ℕ). p ++ (ys ++ q)) front (post-is n e xs h ∙ drop-of-length-le xs {i = e} (omega (arith, kept)))
-    ∙ ap (λ (q : List ℕ). s ++ q) (append-nil ys ∙ made)

@@ -1,7 +1,7 @@
 -- Laws of pads: the input of one, written part by part, and four of them hashed at once. Assumes nothing.
 use mathlib.Core.Path.{_≡_, refl, sym, ap, ap₂, _∙_}
 use mathlib.Core.List.{List, [], _++_, append-nil}
-use Prim.Native.Nat.{ℕ, zero, suc, _+_, _-_, _*_, _<_}
+use Prim.Native.Nat.{ℕ, _+_, _-_, _*_, _<_}
 use native.Mathlib.Nat.{mul-comm, add-assoc}
 use native.Mathlib.Omega.{arith}
 use lib.ListN.{length, drop, length-drop}
@@ -10,7 +10,7 @@ use borrow.Rule.Slice.PartMut.{putMid}
 use Rattle.words.specs.Bytes.{bytes, part, put, concat}
 use Rattle.words.proofs.Concat.{part-length, place-part, concat-same, concat-length, concat-part, concat-grow}
 use Rattle.sha256.specs.Sha.{digestOf}
-use Rattle.sha256.specs.Four.{joined, digests}
+use Rattle.sha256.specs.Four.{digests}
 use Rattle.sha256.proofs.Blocks.{put-next}
 use Rattle.sha256.proofs.Digests.{digest-length}
 use Rattle.pads.specs.Pads.{letters, rowOf, padInput, padOf}
@@ -43,26 +43,13 @@ input-is d batch j row e h =
     ∙ ap (λ (x : List ℕ). (((letters ++ b) ++ n) ++ row) ++ x) none
     ∙ append-nil (((letters ++ b) ++ n) ++ row)
 
--- a range that is laid over all of another
-pub put-all : (d s : List ℕ) → length d ≡ length s → put d 0 s ≡ s
-put-all d s e =
-    put-next [] d s 0 refl
-    ∙ ap (λ (x : List ℕ). s ++ x) (ap (λ (k : ℕ). drop k d) (sym e) ∙ drop-length d)
-    ∙ append-nil s
-
 -- ---- four at once
-
-joined-is : (n : ℕ) (f : ℕ → List ℕ) → joined n f ≡ concat n f
-unfolding joined concat
-joined-is zero f = refl
-joined-is (suc n) f = ap (λ (x : List ℕ). x ++ f n) (joined-is n f)
 
 -- the digests of four messages that stand one after the other
 pub digests-are : (f : ℕ → List ℕ) → ((i : ℕ) → i < 4 → length (f i) ≡ 32) → digests (concat 4 f) ≡ concat 4 (λ i. digestOf (f i))
 unfolding digests
 digests-are f each =
-    joined-is 4 (λ i. digestOf (part (32 * i) 32 (concat 4 f)))
-    ∙ concat-same 4 (λ i. digestOf (part (32 * i) 32 (concat 4 f))) (λ i. digestOf (f i))
+    concat-same 4 (λ i. digestOf (part (32 * i) 32 (concat 4 f))) (λ i. digestOf (f i))
     (λ i h. ap digestOf (ap (λ (a : ℕ). part a 32 (concat 4 f)) (mul-comm 32 i) ∙ concat-part f 32 4 each i h))
 
 -- four inputs, hashed, are four pads

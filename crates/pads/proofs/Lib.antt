@@ -1,5 +1,4 @@
 -- The laws that other crates cite.
-pub mod Bits
 pub mod Laws
 pub mod Gathered
 pub mod Inputs

@@ -1,19 +1,18 @@
 -- What a walk of four trees gives the receiver, as bytes. Assumes nothing.
 use mathlib.Core.Path.{_≡_, sym, ap, _∙_}
 use mathlib.Core.Bool.{true}
-use mathlib.Core.List.{List, _++_, append-nil, append-assoc}
+use mathlib.Core.List.{List, _++_, append-assoc}
 use Prim.Native.Nat.{ℕ, suc, _+_, _-_, _*_, _/_, _%_, _≤_, _<_}
 use native.Mathlib.Nat.{zero-add, mul-assoc, add-mul}
 use native.Mathlib.Omega.{arith}
-use lib.Bits.{bitXor, xor-zero-l}
-use lib.ListN.{length, getD, take, drop, replicate, length-replicate, length-append, drop-of-length-le}
-use lib.Seq.{ext-getD, getD-take, take-at, drop-at}
+use lib.ListN.{length, getD, take, drop, replicate, length-replicate, length-append}
+use lib.Seq.{getD-take, take-at, drop-at}
 use Rattle.words.specs.Bytes.{bytes, part, tabulate, concat, put}
 use Rattle.words.specs.Lanes.{laneBytes}
 use Rattle.words.specs.Xor.{xorEach, xorList}
-use Rattle.words.proofs.Lists.{tabulate-length, tabulate-at, zeros-at, xorEach-at}
+use Rattle.words.proofs.Lists.{tabulate-length, tabulate-at, zeros-at, zeros-sum, put-all}
 use Rattle.words.proofs.Concat.{place-fits, part-at, part-part, place-part, concat-same, concat-add, concat-length, concat-part}
-use Rattle.words.proofs.LaneBytes.{laneBytes-length, laneBytes-at}
+use Rattle.words.proofs.LaneBytes.{lane-is}
 use Rattle.chacha20.specs.Lanes.{keyIn}
 use Rattle.tree.specs.Tree.{streamByte}
 use Rattle.tree.specs.Columns.{uAt, receiverAt}
@@ -24,27 +23,14 @@ use Rattle.answer.proofs.Laws.{width-cases}
 use Rattle.tree.proofs.Widths.{width-fits}
 use Rattle.tree.proofs.Streams.{u-lane, column-lane}
 use Rattle.columns.specs.Columns.{uOf, receiverColumn}
-use Rattle.columns.proofs.Layouts.{columns-fit}
+use Rattle.columns.proofs.Tables.{columns-fit}
 
--- a lane is a list of bytes if each byte of its words is
-pub lane-is : (l len : ℕ) (t : List ℕ) (f : ℕ → ℕ) → len % 4 ≡ 0
-    → ((x : ℕ) → x < len → getD (bytes 4 (getD t (4 * (x / 4) + l) 0)) (x % 4) 0 ≡ f x) → laneBytes l (len / 4) t ≡ tabulate len f
-lane-is l len t f whole at =
-    ext-getD 0 (laneBytes l (len / 4) t) (tabulate len f) (size ∙ sym (tabulate-length len f))
-    (λ x h.
-    let h′ : x < len = omega (arith, size) in
-    laneBytes-at l (len / 4) t x (omega arith) ∙ at x h′ ∙ sym (tabulate-at len f x h′))
-  where
-    size : length (laneBytes l (len / 4) t) ≡ len
-    size = laneBytes-length l (len / 4) t ∙ omega arith
+-- a range that was cleared
+zero-at : (n : ℕ) (zs : List ℕ) → zs ≡ replicate n 0 → (i : ℕ) → getD zs i 0 ≡ 0
+zero-at n zs e i = ap (λ (z : List ℕ). getD z i 0) e ∙ zeros-at n i
 
--- zeros with f added are f
-pub zeros-sum : (n : ℕ) (zs l : List ℕ) (f : ℕ → ℕ) → zs ≡ replicate n 0 → l ≡ xorEach zs f → (i : ℕ) → i < n → getD l i 0 ≡ f i
-zeros-sum n zs l f e s i h =
-    ap (λ (m : List ℕ). getD m i 0) (s ∙ ap (λ (z : List ℕ). xorEach z f) e)
-    ∙ xorEach-at (replicate n 0) f i (omega (arith, length-replicate {A = ℕ} n 0))
-    ∙ ap (λ (x : ℕ). bitXor x (f i)) (zeros-at n i)
-    ∙ xor-zero-l (f i)
+zero-length : (n : ℕ) (zs : List ℕ) → zs ≡ replicate n 0 → length zs ≡ n
+zero-length n zs e = ap length e ∙ length-replicate {A = ℕ} n 0
 
 -- u and v were zero, n words and k times as many; what a walk of four trees of k levels leaves there
 module _ (k batch n : ℕ) (roots nodes : List ℕ) (loaded : (l : ℕ) → l < 4 → laneBytes l 8 nodes ≡ part (l * 32) 32 roots) (zs : List ℕ) (zero : zs ≡ replicate n 0) where
@@ -53,12 +39,16 @@ module _ (k batch n : ℕ) (roots nodes : List ℕ) (loaded : (l : ℕ) → l < 
       → laneBytes l (len / 4) (take len u) ≡ uOf k batch len (rootOf roots l)
   unfolding uOf keyIn
   u-walked u made len l whole fits hl =
-      lane-is l len (take len u) (λ x. uAt k (keyIn l nodes) (λ y leaf. streamByte batch x leaf)) whole
+      let byte : ℕ → ℕ = λ x. uAt k (keyIn l nodes) (λ y leaf. streamByte batch x leaf) in
+      lane-is l (len / 4) (take len u) (tabulate len byte) (tabulate-length len byte ∙ omega arith)
       (λ x h.
+      let h′ : x < len = omega arith in
       let here : 4 * (x / 4) + l < len = omega arith in
       ap (λ (w : ℕ). getD (bytes 4 w) (x % 4) 0)
-      (getD-take len u (4 * (x / 4) + l) 0 here ∙ zeros-sum n zs u (uWord batch k nodes) zero made (4 * (x / 4) + l) (omega arith))
-      ∙ u-lane batch k nodes l x hl)
+      (getD-take len u (4 * (x / 4) + l) 0 here
+      ∙ zeros-sum zs u (uWord batch k nodes) (zero-at n zs zero) made (4 * (x / 4) + l) (omega (arith, zero-length n zs zero)))
+      ∙ u-lane batch k nodes l x hl
+      ∙ sym (tabulate-at len byte x h′))
       ∙ ap (uOf k batch len) (loaded l hl)
 
   -- and of column b of v
@@ -67,16 +57,18 @@ module _ (k batch n : ℕ) (roots nodes : List ℕ) (loaded : (l : ℕ) → l < 
       → laneBytes l (len / 4) (part (b * n) len v) ≡ receiverColumn k batch len (rootOf roots l) b
   unfolding receiverColumn keyIn
   column-walked ys v zero₂ made len l b whole fits hl hb =
-      let long : length zs ≡ n = ap length zero ∙ length-replicate {A = ℕ} n 0 in
-      lane-is l len (part (b * n) len v) (λ x. receiverAt k (keyIn l nodes) (λ y leaf. streamByte batch x leaf) b) whole
+      let byte : ℕ → ℕ = λ x. receiverAt k (keyIn l nodes) (λ y leaf. streamByte batch x leaf) b in
+      lane-is l (len / 4) (part (b * n) len v) (tabulate len byte) (tabulate-length len byte ∙ omega arith)
       (λ x h.
+      let h′ : x < len = omega arith in
       let here : 4 * (x / 4) + l < len = omega arith in
       ap (λ (w : ℕ). getD (bytes 4 w) (x % 4) 0)
       (part-at (b * n) len v (4 * (x / 4) + l) here
-      ∙ zeros-sum (k * n) ys v (columnWord batch (length zs) k nodes) zero₂ made (b * n + (4 * (x / 4) + l))
-      (omega (arith, place-fits b k n hb))
-      ∙ ap (λ (m : ℕ). columnWord batch m k nodes (b * n + (4 * (x / 4) + l))) long)
-      ∙ column-lane batch n k nodes b l x hl (omega arith))
+      ∙ zeros-sum ys v (columnWord batch (length zs) k nodes) (zero-at (k * n) ys zero₂) made (b * n + (4 * (x / 4) + l))
+      (omega (arith, place-fits b k n hb, zero-length (k * n) ys zero₂))
+      ∙ ap (λ (m : ℕ). columnWord batch m k nodes (b * n + (4 * (x / 4) + l))) (zero-length n zs zero))
+      ∙ column-lane batch n k nodes b l x hl (omega arith)
+      ∙ sym (tabulate-at len byte x h′))
       ∙ ap (λ (r : List ℕ). receiverColumn k batch len r b) (loaded l hl)
 
 pub u-length : (k batch len : ℕ) (root : List ℕ) → length (uOf k batch len root) ≡ len
@@ -98,10 +90,6 @@ roots-from f i roots =
     (λ j h. ap f (place-part i 4 j 32 roots h))
 
 -- ---- the sums u of four trees stand at the front of a longer range: the first becomes the choices, the others begin the correction
-
-put-all : (d s : List ℕ) → length s ≡ length d → put d 0 s ≡ s
-unfolding put
-put-all d s e = ap (λ (r : List ℕ). s ++ r) (drop-of-length-le d {i = 0 + length s} (omega (arith, e))) ∙ append-nil s
 
 concat-front : (c : ℕ) (f : ℕ → List ℕ) → concat (1 + c) f ≡ f 0 ++ concat c (λ i. f (suc i))
 unfolding concat

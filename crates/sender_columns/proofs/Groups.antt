@@ -1,18 +1,17 @@
 -- Four trees as a part of all: their sides, siblings and corrections. Assumes nothing.
-use mathlib.Core.Path.{_≡_, refl, sym, ap, ap₂, _∙_}
+use mathlib.Core.Path.{_≡_, sym, ap, ap₂, _∙_}
 use mathlib.Core.Bool.{true}
-use mathlib.Core.List.{List, [], _∷_, _++_}
+use mathlib.Core.List.{List, _++_}
 use Prim.Native.Nat.{ℕ, zero, suc, _+_, _-_, _*_, _/_, _%_, _^_, _≤_, _<_}
 use native.Mathlib.Omega.{arith}
 use lib.ListN.{length, getD, List·getD-append}
-use lib.Seq.{ext-getD}
 use native.Mathlib.Nat.{suc-mul, add-mul}
 use lib.Arith.{digits-div, digits-mod}
 use Rattle.words.specs.Bytes.{part, bytes, put}
 use Rattle.words.specs.Lanes.{laneBytes}
 use Rattle.words.proofs.Lists.{tabulate-same, put-before, put-in}
 use Rattle.words.proofs.Concat.{part-at, part-part, place-fits, place-part}
-use Rattle.words.proofs.LaneBytes.{laneBytes-length, laneBytes-at}
+use Rattle.words.proofs.LaneBytes.{laneBytes-length, laneBytes-at, lane-is}
 use Rattle.words.specs.Bits.{bitOf, bitAt}
 use Rattle.words.specs.Xor.{_⊕_}
 use Rattle.words.proofs.Xor.{bit-lt}
@@ -30,14 +29,10 @@ use Rattle.sender_columns.specs.Lanes.{SidesAre}
 -- the lanes of a list's first words
 pub lanes-front : (l len : ℕ) (ys zs : List ℕ) → len % 4 ≡ 0 → l < 4 → length ys ≡ len → laneBytes l (len / 4) (ys ++ zs) ≡ laneBytes l (len / 4) ys
 lanes-front l len ys zs four low long =
-    ext-getD 0 (laneBytes l (len / 4) (ys ++ zs)) (laneBytes l (len / 4) ys) (laneBytes-length l (len / 4) (ys ++ zs) ∙ sym (laneBytes-length l (len / 4) ys))
-    (λ x lt. at x (omega (arith, laneBytes-length l (len / 4) (ys ++ zs))))
-  where
-    at : (x : ℕ) → x < 4 * (len / 4) → getD (laneBytes l (len / 4) (ys ++ zs)) x 0 ≡ getD (laneBytes l (len / 4) ys) x 0
-    at x lt =
-        laneBytes-at l (len / 4) (ys ++ zs) x lt
-        ∙ ap (λ (w : ℕ). getD (bytes 4 w) (x % 4) 0) (List·getD-append ys zs 0 (4 * (x / 4) + l) (omega arith))
-        ∙ sym (laneBytes-at l (len / 4) ys x lt)
+    lane-is l (len / 4) (ys ++ zs) (laneBytes l (len / 4) ys) (laneBytes-length l (len / 4) ys)
+    (λ x lt.
+    ap (λ (w : ℕ). getD (bytes 4 w) (x % 4) 0) (List·getD-append ys zs 0 (4 * (x / 4) + l) (omega arith))
+    ∙ sym (laneBytes-at l (len / 4) ys x lt))
 
 -- a column takes of the correction only what is below its length
 pub same-correction : (k batch len : ℕ) (siblings : List ℕ) (d : ℕ) (c c′ : List ℕ) (b : ℕ) → ((x : ℕ) → x < len → getD c x 0 ≡ getD c′ x 0)

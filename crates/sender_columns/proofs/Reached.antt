@@ -9,7 +9,6 @@ use native.Mathlib.Numerals.{add-one}
 use lib.Arith.{digits-div, digits-mod}
 use lib.Bits.{bitXor, xor-zero-r}
 use lib.ListN.{length, getD}
-use lib.Seq.{ext-getD}
 use Rattle.words.specs.Bytes.{bytes, part}
 use Rattle.words.specs.Bits.{bitOf}
 use Rattle.words.specs.Lanes.{laneBytes}
@@ -17,15 +16,16 @@ use Rattle.words.specs.Xor.{xorEach, xorPart, sumTo}
 use Rattle.words.proofs.Xor.{bit-lt, xor-assoc}
 use Rattle.words.proofs.Numbers.{bytes-zero, bytes-xor, bytes-scale}
 use Rattle.words.proofs.Lists.{tabulate-length, tabulate-at, xorEach-length, xorEach-at, xorPart-length, xorPart-before, xorPart-in, xorPart-after}
-use Rattle.words.proofs.Concat.{place-fits, part-at, part-length}
+use Rattle.words.proofs.Concat.{place-fits, part-at}
 use Rattle.words.proofs.Sums.{sumTo-same}
-use Rattle.words.proofs.LaneBytes.{laneBytes-length, laneBytes-at}
+use Rattle.words.proofs.LaneBytes.{laneBytes-at, lane-is}
 use Rattle.chacha20.specs.Lanes.{keyIn}
 use Rattle.tree.specs.Tree.{sumBelow, streamByte}
 use Rattle.tree.specs.Path.{siblingNumber, sideOf}
 use Rattle.tree.specs.Lanes.{streamWord, uWord, columnWord}
 use Rattle.tree.proofs.Sums.{sum-map, sum-same}
 use Rattle.tree.proofs.Streams.{stream-byte}
+use Rattle.tree.proofs.Lanes.{lane-node}
 use Rattle.columns.specs.Columns.{besideAt, senderColumn}
 use Rattle.sender_columns.proofs.Beside.{allOf, withBit, counted, own-level, after-own}
 
@@ -204,25 +204,6 @@ unfolding sumTo
 sum-bytes zero f c = bytes-zero 4 c
 sum-bytes (suc l) f c = bytes-xor 4 (sumTo l f) (f l) c ∙ ap (λ (x : ℕ). bitXor x (getD (bytes 4 (f l)) c 0)) (sum-bytes l f c)
 
--- the node of level l in lane i is that part of the lane's bytes
-lane-node : (k i l : ℕ) (s : List ℕ) → i < 4 → l < k → keyIn i (part (32 * l) 32 s) ≡ part (32 * l) 32 (laneBytes i (8 * k) s)
-unfolding keyIn
-lane-node k i l s hi lt =
-    ext-getD 0 (laneBytes i 8 (part (32 * l) 32 s)) (part (32 * l) 32 (laneBytes i (8 * k) s))
-    (laneBytes-length i 8 (part (32 * l) 32 s)
-    ∙ sym (part-length (32 * l) 32 (laneBytes i (8 * k) s) (omega (arith, laneBytes-length i (8 * k) s))))
-    (λ b h. at b (omega (arith, laneBytes-length i 8 (part (32 * l) 32 s))))
-  where
-    at : (b : ℕ) → b < 32 → getD (laneBytes i 8 (part (32 * l) 32 s)) b 0 ≡ getD (part (32 * l) 32 (laneBytes i (8 * k) s)) b 0
-    at b h =
-        let word : 32 * l + (4 * (b / 4) + i) ≡ 4 * ((32 * l + b) / 4) + i = omega arith in
-        let byte : b % 4 ≡ (32 * l + b) % 4 = omega arith in
-        laneBytes-at i 8 (part (32 * l) 32 s) b h
-        ∙ ap (λ (w : ℕ). getD (bytes 4 w) (b % 4) 0) (part-at (32 * l) 32 s (4 * (b / 4) + i) (omega arith))
-        ∙ ap₂ (λ (p q : ℕ). getD (bytes 4 (getD s p 0)) q 0) word byte
-        ∙ sym (laneBytes-at i (8 * k) s (32 * l + b) (omega arith))
-        ∙ sym (part-at (32 * l) 32 (laneBytes i (8 * k) s) b h)
-
 module _ (k batch n len : ℕ) (d : ℕ → ℕ) (s u0 u v : List ℕ) (sibs corr : List ℕ) (i b : ℕ) (hi : i < 4) (hb : b < k)
     (whole : len % 4 ≡ 0) (fits : len ≤ n) (siblings : laneBytes i (8 * k) s ≡ sibs) (r : Reached k batch n d s u0 k u v) where
   -- what is counted, at byte x
@@ -252,29 +233,25 @@ module _ (k batch n len : ℕ) (d : ℕ → ℕ) (s u0 u v : List ℕ) (sibs cor
       → laneBytes i (len / 4) (part (b * n) len v) ≡ senderColumn k batch len sibs (d i) corr b
   unfolding senderColumn
   reached-column-at same =
-      ext-getD 0 (laneBytes i (len / 4) (part (b * n) len v)) (senderColumn k batch len sibs (d i) corr b)
-      (long ∙ sym (tabulate-length len byte))
-      (λ x h. at x (omega (arith, long)))
+      lane-is i (len / 4) (part (b * n) len v) (senderColumn k batch len sibs (d i) corr b) (tabulate-length len byte ∙ omega arith)
+      (λ x h. at x (omega arith))
     where
       byte : ℕ → ℕ
       byte x = bitXor (besideAt k sibs (d i) (λ y leaf. streamByte batch x leaf) b) (bitOf (d i) b * getD corr x 0)
-
-      long : length (laneBytes i (len / 4) (part (b * n) len v)) ≡ len
-      long = laneBytes-length i (len / 4) (part (b * n) len v) ∙ omega arith
 
       -- the word at place p, if that is word j of lane c
       word : ℕ → ℕ → ℕ → ℕ
       word p c j =
           bitXor (sumTo k (counted k (d c) b (λ l. keyIn c (part (32 * l) 32 s)) (streamWord batch j))) (bitOf (d c) b * getD u0 p 0)
 
-      at : (x : ℕ) → x < len → getD (laneBytes i (len / 4) (part (b * n) len v)) x 0 ≡ getD (senderColumn k batch len sibs (d i) corr b) x 0
+      at : (x : ℕ) → x < len
+          → getD (bytes 4 (getD (part (b * n) len v) (4 * (x / 4) + i) 0)) (x % 4) 0 ≡ getD (senderColumn k batch len sibs (d i) corr b) x 0
       at x h =
           let p : ℕ = 4 * (x / 4) + i in
           let lane : (4 * (x / 4) + i) % 4 ≡ i = omega arith in
           let place : (4 * (x / 4) + i) / 4 ≡ x / 4 = omega arith in
           let sum : ℕ = sumTo k (counted k (d i) b (λ l. keyIn i (part (32 * l) 32 s)) (streamWord batch (x / 4))) in
-          laneBytes-at i (len / 4) (part (b * n) len v) x (omega arith)
-          ∙ ap (λ (w : ℕ). getD (bytes 4 w) (x % 4) 0)
+          ap (λ (w : ℕ). getD (bytes 4 w) (x % 4) 0)
           (part-at (b * n) len v (4 * (x / 4) + i) (omega arith)
           ∙ r .done b (4 * (x / 4) + i) (omega arith) hb (omega arith)
           ∙ ap₂ (λ (c j : ℕ). word p c j) lane place)

@@ -14,9 +14,8 @@ use Rattle.words.proofs.Lists.{tabulate-length, tabulate-at, xorEach-length, xo
 use Rattle.words.proofs.Concat.{place-fits, part-length, concat-same, concat-length, concat-part, concat-at}
 use Rattle.words.proofs.Sums.{sumTo-same}
 use Rattle.tree.specs.Tree.{childOf, sumBelow, totalOf}
-use Rattle.tree.specs.Path.{pathNode, siblingNode, sideOf}
-use Rattle.tree.proofs.Sums.{child-length}
-use Rattle.tree.proofs.Path.{sibling}
+use Rattle.tree.specs.Path.{siblingNode, sideOf}
+use Rattle.tree.proofs.Path.{sibling, sibling-length}
 use Rattle.tree.specs.Layout.{treesOf, rootOf, deltaOf, treePart}
 use Rattle.setup.specs.Setup.{treeMessage, messageOf}
 use Rattle.setup.specs.Setup.{unmasked, nextNode, nodesFound, treeSiblings, siblingsOf, senderPads, besidePaths}
@@ -24,9 +23,6 @@ use Rattle.setup.specs.Setup.{unmasked, nextNode, nodesFound, treeSiblin
 total-length : (root : List ℕ) (l s : ℕ) → length (totalOf root l s) ≡ 32
 unfolding totalOf
 total-length root l s = tabulate-length 32 (λ j. sumBelow l root 0 (λ y m. getD (childOf s m) j 0))
-
-pub sibling-length : (k : ℕ) (root : List ℕ) (d l : ℕ) → length (siblingNode k root d l) ≡ 32
-sibling-length k root d l = child-length (sideOf k d l) (pathNode k root d l) (omega arith)
 
 -- ---- the sender, from the totals of a tree
 

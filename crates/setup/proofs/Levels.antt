@@ -15,14 +15,14 @@ use Rattle.words.specs.Lanes.{laneBytes}
 use Rattle.words.specs.Xor.{xorEach, xorPart, sumTo}
 use Rattle.words.proofs.Numbers.{bytes-zero}
 use Rattle.words.proofs.Lists.{tabulate-length, tabulate-at, tabulate-same, xorPart-length, part-added}
-use Rattle.words.proofs.Concat.{place-fits, part-at, place-part, concat-same, concat-length, concat-part, concat-at}
+use Rattle.words.proofs.Concat.{place-fits, part-at, part-length, place-part, concat-same, concat-length, concat-part, concat-at}
 use Rattle.words.proofs.Sums.{sumTo-same}
 use Rattle.words.proofs.LaneBytes.{laneBytes-length, laneBytes-at, lane-added-in, lane-added-before, lane-added-after}
 use Rattle.chacha20.specs.Lanes.{keyIn}
 use Rattle.tree.specs.Tree.{childrenOf, childOf, sumBelow}
 use Rattle.tree.specs.Lanes.{totalWord, totalByte}
 use Rattle.tree.proofs.Sums.{child-byte, sum-same}
-use Rattle.tree.proofs.Lanes.{total-lane}
+use Rattle.tree.proofs.Lanes.{total-lane, lane-node}
 use Rattle.tree.specs.Layout.{treePart}
 use Rattle.setup.specs.Setup.{unmasked, nextNode, nodesFound}
 use Rattle.setup.specs.Found.{foundIn}
@@ -121,21 +121,12 @@ module _ (k : ℕ) (side : ℕ → ℕ) (low : (l : ℕ) → side l < 2) (totals
 
   -- the node of level l in this lane
   node-in : (l : ℕ) (s t : List ℕ) → l < k → Reached k side totals i l s t → keyIn i (part (32 * l) 32 s) ≡ nodeAt side totals l
-  unfolding keyIn
   node-in l s t h r =
-      ext-getD 0 (laneBytes i 8 (part (32 * l) 32 s)) (nodeAt side totals l)
-      (laneBytes-length i 8 (part (32 * l) 32 s) ∙ sym (node-length side totals l))
-      (λ b lt. at b (omega (arith, laneBytes-length i 8 (part (32 * l) 32 s))))
-    where
-      at : (b : ℕ) → b < 32 → getD (laneBytes i 8 (part (32 * l) 32 s)) b 0 ≡ getD (nodeAt side totals l) b 0
-      at b hb =
-          let word : 32 * l + (4 * (b / 4) + i) ≡ 4 * ((32 * l + b) / 4) + i = omega arith in
-          let byte : b % 4 ≡ (32 * l + b) % 4 = omega arith in
-          laneBytes-at i 8 (part (32 * l) 32 s) b hb
-          ∙ ap (λ (w : ℕ). getD (bytes 4 w) (b % 4) 0) (part-at (32 * l) 32 s (4 * (b / 4) + i) (omega arith))
-          ∙ ap₂ (λ (p q : ℕ). getD (bytes 4 (getD s p 0)) q 0) word byte
-          ∙ sym (laneBytes-at i (8 * k) s (32 * l + b) (omega arith))
-          ∙ r .found l b (omega arith) hb
+      let bytes : List ℕ = laneBytes i (8 * k) s in
+      let long = part-length (32 * l) 32 bytes (omega (arith, laneBytes-length i (8 * k) s)) in
+      lane-node k i l s hi h
+      ∙ ext-getD 0 (part (32 * l) 32 bytes) (nodeAt side totals l) (long ∙ sym (node-length side totals l))
+      (λ b lt. let hb : b < 32 = omega (arith, long) in part-at (32 * l) 32 bytes b hb ∙ r .found l b (omega arith) hb)
 
   module _ (l : ℕ) (s t s′ t′ sides : List ℕ) (more : l + 1 < k) (ls : length s ≡ 32 * k) (lt : length t ≡ 64 * k)
       (same : (j : ℕ) → side j ≡ getD sides (i * k + j) 0) (r : Reached k side totals i l s t)

@@ -3,13 +3,13 @@ use mathlib.Core.Path.{_≡_, sym, ap, ap₂, _∙_}
 use mathlib.Core.List.{List}
 use Prim.Native.Nat.{ℕ, _+_, _-_, _*_, _/_, _%_, _≤_, _<_}
 use native.Mathlib.Omega.{arith}
-use lib.Bits.{bitXor, xor-zero-l}
-use lib.ListN.{length, getD, take, replicate, length-replicate}
-use lib.Seq.{ext-getD, getD-take, length-take-le, take-all}
-use Rattle.words.specs.Bytes.{bytes, part, tabulate, concat}
+use lib.Bits.{bitXor}
+use lib.ListN.{length, getD, take, replicate}
+use lib.Seq.{ext-getD, take-all}
+use Rattle.words.specs.Bytes.{bytes, part, concat}
 use Rattle.words.specs.Lanes.{laneBytes}
 use Rattle.words.specs.Xor.{xorEach, xorList}
-use Rattle.words.proofs.Lists.{tabulate-at, zeros-at, xorEach-length, xorEach-at, xorList-part}
+use Rattle.words.proofs.Lists.{tabulate-at, zeros-part, zeros-sum, cut-length, xorEach-length, xorEach-at, xorList-part}
 use Rattle.words.proofs.Concat.{part-at, place-part, concat-same, concat-length, concat-part, concat-parts}
 use Rattle.words.proofs.LaneBytes.{laneBytes-length, laneBytes-at}
 use Rattle.chacha20.specs.Lanes.{keyIn}
@@ -51,23 +51,10 @@ message-byte k root pads x h =
 -- the first n of m zeros were lent and come back with f added
 pub zeros-added : (m n : ℕ) (ys : List ℕ) (f : ℕ → ℕ) → ys ≡ xorEach (take (n - 0) (replicate m 0)) f → n ≤ m
     → (length ys ≡ n) × ((i : ℕ) → i < n → getD ys i 0 ≡ f i)
-zeros-added m n ys f e h = (ap length e ∙ xorEach-length zs f ∙ long, at)
-  where
-    zeros : List ℕ
-    zeros = replicate m 0
-
-    zs : List ℕ
-    zs = take (n - 0) zeros
-
-    long : length zs ≡ n
-    long = length-take-le (n - 0) zeros (omega (arith, length-replicate {A = ℕ} m 0)) ∙ omega arith
-
-    at : (i : ℕ) → i < n → getD ys i 0 ≡ f i
-    at i lt =
-        ap (λ (l : List ℕ). getD l i 0) e
-        ∙ xorEach-at zs f i (omega (arith, long))
-        ∙ ap (λ (x : ℕ). bitXor x (f i)) (getD-take (n - 0) zeros i 0 (omega arith) ∙ zeros-at m i)
-        ∙ xor-zero-l (f i)
+zeros-added m n ys f e h =
+    let zs : List ℕ = take (n - 0) (replicate m 0) in
+    let long = cut-length n m h in
+    (ap length e ∙ xorEach-length zs f ∙ long, λ i lt. zeros-sum zs ys f (zeros-part m (n - 0)) e i (omega (arith, long)))
 
 -- a lane of the totals of four nodes, masked
 lane-message : (k : ℕ) (nodes t pads : List ℕ) → ((i : ℕ) → i < 64 * k → getD t i 0 ≡ totalWord nodes i) → (l : ℕ) → l < 4

@@ -5,17 +5,18 @@ use Prim.Native.Nat.{ℕ, _+_, _-_, _*_, _/_, _%_, _<_, _≤_}
 use native.Mathlib.Omega.{arith}
 use lib.ListN.{length, getD, drop, length-append, length-drop, List·getD-append}
 use lib.Seq.{getD-take, getD-drop, getD-append-add, length-take-le, take-all}
+use Rattle.words.specs.Bytes.{concat}
 use Rattle.words.specs.Lanes.{lane, laned}
+use Rattle.words.proofs.Concat.{concat-same}
 use Rattle.words.proofs.Lanes.{lane-at, laned-length, laned-at, lane-laned, laned-is}
 use Rattle.sha256.specs.declared.Work.{Work}
 use Rattle.sha256.specs.Sha.{wordAt, padding, constants, padded, initial, nextWord, scheduled, stepped, roundAt, rounds, added, compressed, hashed, workBytes, digestOf}
-use Rattle.sha256.specs.Four.{message, joined, digests, padWords, wordsOf, workOf, schedules, scheduleIn, fourInLanes, roundsInLanes, digestIn}
+use Rattle.sha256.specs.Four.{message, digests, padWords, wordsOf, workOf, schedules, scheduleIn, fourInLanes, roundsInLanes, digestIn}
 use Rattle.sha256.specs.Pieces.{fourRounds}
 use Rattle.words.proofs.Below.{below}
 use Rattle.words.proofs.Progress.{Begun}
 use Rattle.sha256.proofs.Words.{next-cong, word-first, word-next, scheduled-length}
 use Rattle.sha256.proofs.Blocks.{padding-length}
-use Rattle.sha256.proofs.Digests.{joined-cong}
 use Rattle.sha256.proofs.Rounds.{four-more}
 
 -- ---- the block of a message of 32 bytes
@@ -172,10 +173,10 @@ lane-digest l m e h =
     (lane-rounds 64 l (schedules m) h ∙ ap (λ (w : List ℕ). rounds 64 w initial) (schedule-in l m h))
     ∙ sym (digest-block (message l m) (message-length m e l h))
 
-pub lane-digests : (m : List ℕ) → length m ≡ 128 → joined 4 (λ l. digestIn l (roundsInLanes 64 (schedules m))) ≡ digests m
+pub lane-digests : (m : List ℕ) → length m ≡ 128 → concat 4 (λ l. digestIn l (roundsInLanes 64 (schedules m))) ≡ digests m
 unfolding digests
 lane-digests m e =
-    joined-cong 4 (λ l. digestIn l (roundsInLanes 64 (schedules m))) (λ l. digestOf (message l m)) (λ l h. lane-digest l m e h)
+    concat-same 4 (λ l. digestIn l (roundsInLanes 64 (schedules m))) (λ l. digestOf (message l m)) (λ l h. lane-digest l m e h)
 
 pub digestIn-length : (l : ℕ) (t : List ℕ) → length (digestIn l t) ≡ 32
 unfolding digestIn

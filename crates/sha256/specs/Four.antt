@@ -1,9 +1,9 @@
 -- Four messages of 32 bytes, one after the other, and their digests; and how they stand side by side: word w of lane l at 4w + l.
 -- Assumes nothing.
-use Prim.Native.Nat.{ℕ, zero, suc, _+_, _*_, _/_, _%_}
-use mathlib.Core.List.{List, [], _∷_, _++_}
+use Prim.Native.Nat.{ℕ, _+_, _*_, _/_, _%_}
+use mathlib.Core.List.{List, [], _∷_}
 use lib.ListN.{getD}
-use Rattle.words.specs.Bytes.{part}
+use Rattle.words.specs.Bytes.{part, concat}
 use Rattle.words.specs.Lanes.{lane, laned}
 use Rattle.sha256.specs.declared.Work.{Work}
 use Rattle.sha256.specs.Sha.{padded, initial, scheduled, rounds, added, workBytes, digestOf}
@@ -13,14 +13,9 @@ use Rattle.sha256.specs.Pieces.{fourRounds}
 abbrev pub message : ℕ → List ℕ → List ℕ
 message l m = part (32 * l) 32 m
 
--- f 0, .., f (n - 1), one after the other
-unfoldable pub joined : ℕ → (ℕ → List ℕ) → List ℕ
-joined zero f = []
-joined (suc n) f = joined n f ++ f n
-
 -- the digests of the four messages
 unfoldable pub digests : List ℕ → List ℕ
-digests m = joined 4 (λ l. digestOf (message l m))
+digests m = concat 4 (λ l. digestOf (message l m))
 
 -- words 8 to 15 of the block of a message of 32 bytes: its padding
 unfoldable pub padWords : List ℕ

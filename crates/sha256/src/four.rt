@@ -3,9 +3,10 @@ use crate::Work;
 ghost use mathlib.Core.Path.{_≡_};
 ghost use Prim.Native.Nat.{_+_, _<_};
 ghost use lib.ListN.{length, getD, take};
+ghost use Rattle.words.specs.Bytes.{concat};
 ghost use Rattle.words.specs.Lanes.{lane, putLane};
 ghost use Rattle.words.specs.Lanes.{laned};
-ghost use Rattle.sha256.specs.Four.{joined, digests, padWords, wordsOf, workOf, schedules, scheduleIn, fourInLanes, roundsInLanes, digestIn};
+ghost use Rattle.sha256.specs.Four.{digests, padWords, wordsOf, workOf, schedules, scheduleIn, fourInLanes, roundsInLanes, digestIn};
 ghost use Rattle.sha256.specs.Pieces.{fourRounds};
 ghost use Rattle.sha256.specs.Sha.{constants, roundAt};
 
@@ -168,7 +169,7 @@ fn finish(t: &[u32; 32], l: usize) -> [u8; 32]
 }
 
 fn collect(t: &[u32; 32]) -> [u8; 128]
-    ensures { λ r. ⌜ r ≡ joined 4 (λ l. digestIn l (now (t .entry))) ⌝ }
+    ensures { λ r. ⌜ r ≡ concat 4 (λ l. digestIn l (now (t .entry))) ⌝ }
 {
     let mut out = [0u8; 128];
     for l in 0..4usize {

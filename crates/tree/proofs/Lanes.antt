@@ -13,9 +13,9 @@ use Rattle.words.specs.Lanes.{laneBytes}
 use Rattle.words.specs.Xor.{xorEach, xorPart}
 use Rattle.words.proofs.Xor.{xor-assoc}
 use Rattle.words.proofs.Lists.{xorEach-is, xorPart-length, xorPart-before, xorPart-in, xorPart-after}
-use Rattle.words.proofs.Concat.{part-at}
+use Rattle.words.proofs.Concat.{part-at, part-length}
 use Rattle.words.proofs.Lanes.{laned-at}
-use Rattle.words.proofs.LaneBytes.{laneBytes-length, laneBytes-at}
+use Rattle.words.proofs.LaneBytes.{laneBytes-length, laneBytes-at, lane-is}
 use Rattle.chacha20.specs.ChaCha.{blockWords}
 use Rattle.chacha20.specs.Nonce.{nonceOf}
 use Rattle.chacha20.specs.Lanes.{keyIn, blocksOf}
@@ -23,6 +23,20 @@ use Rattle.chacha20.proofs.Laws.{block-byte}
 use Rattle.tree.specs.Tree.{childrenOf, childOf, sumBelow}
 use Rattle.tree.specs.Lanes.{childWord, totalWord, totalByte}
 use Rattle.tree.proofs.Sums.{child-length, child-byte, sum-number, sum-byte}
+
+-- the node of level l in lane i is that part of the lane's bytes
+pub lane-node : (k i l : ℕ) (s : List ℕ) → i < 4 → l < k → keyIn i (part (32 * l) 32 s) ≡ part (32 * l) 32 (laneBytes i (8 * k) s)
+unfolding keyIn
+lane-node k i l s hi lt =
+    lane-is i 8 (part (32 * l) 32 s) (part (32 * l) 32 (laneBytes i (8 * k) s))
+    (part-length (32 * l) 32 (laneBytes i (8 * k) s) (omega (arith, laneBytes-length i (8 * k) s)))
+    (λ b h.
+    let word : 32 * l + (4 * (b / 4) + i) ≡ 4 * ((32 * l + b) / 4) + i = omega arith in
+    let byte : b % 4 ≡ (32 * l + b) % 4 = omega arith in
+    ap (λ (w : ℕ). getD (bytes 4 w) (b % 4) 0) (part-at (32 * l) 32 s (4 * (b / 4) + i) (omega arith))
+    ∙ ap₂ (λ (p q : ℕ). getD (bytes 4 (getD s p 0)) q 0) word byte
+    ∙ sym (laneBytes-at i (8 * k) s (32 * l + b) (omega arith))
+    ∙ sym (part-at (32 * l) 32 (laneBytes i (8 * k) s) b h))
 
 -- ---- the children of four nodes
 

@@ -5,16 +5,19 @@ use Prim.Native.Nat.{ℕ, zero, suc, _+_, _-_, _*_, _/_, _^_, _≤_, _<_}
 use native.Mathlib.Nat.{add-zero, zero-mul, one-mul, div-one, div-eq-of-lt}
 use native.Mathlib.Omega.{arith}
 use lib.Bits.{bitXor, xor-comm, xor-zero-l, xor-zero-r, xor-self}
-use lib.ListN.{getD}
+use lib.ListN.{length, getD}
 use borrow.Author.Tests.{eq-eqb, ne-eqb}
 use Rattle.words.specs.Xor.{sumTo}
 use Rattle.words.proofs.Xor.{digit, xor-assoc}
 use Rattle.words.proofs.Lists.{tabulate-at}
 use Rattle.words.proofs.Sums.{sumTo-same}
 use Rattle.tree.specs.Tree.{childOf, sumBelow, totalOf}
-use Rattle.tree.specs.Path.{pathBit, pathNode, pathNumber, siblingNode, siblingNumber}
+use Rattle.tree.specs.Path.{pathBit, pathNode, pathNumber, siblingNode, siblingNumber, sideOf}
 use Rattle.tree.specs.Columns.{otherThan}
-use Rattle.tree.proofs.Sums.{half, sum-same, sum-number}
+use Rattle.tree.proofs.Sums.{half, child-length, sum-same, sum-number}
+
+pub sibling-length : (k : ℕ) (root : List ℕ) (d l : ℕ) → length (siblingNode k root d l) ≡ 32
+sibling-length k root d l = child-length (sideOf k d l) (pathNode k root d l) (omega arith)
 
 -- ---- numbers
 

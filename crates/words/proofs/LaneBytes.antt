@@ -30,6 +30,13 @@ laneBytes-at l n t x h =
     ∙ ap (λ (w : ℕ). getD (bytes 4 w) (x % 4) 0)
     (lane-at l 0 n (x / 4) t (omega arith) ∙ ap (λ (i : ℕ). getD t (i + l) 0) (zero-add (4 * (x / 4))))
 
+-- a lane is a list of bytes if each byte of its words is
+pub lane-is : (l n : ℕ) (t s : List ℕ) → length s ≡ 4 * n
+    → ((x : ℕ) → x < 4 * n → getD (bytes 4 (getD t (4 * (x / 4) + l) 0)) (x % 4) 0 ≡ getD s x 0) → laneBytes l n t ≡ s
+lane-is l n t s long at =
+    ext-getD 0 (laneBytes l n t) s (laneBytes-length l n t ∙ sym long)
+    (λ x h. let h′ : x < 4 * n = omega (arith, laneBytes-length l n t) in laneBytes-at l n t x h′ ∙ at x h′)
+
 -- the bytes of a 4-byte number are the bytes that it was read from
 pub word-bytes : (s : List ℕ) → Bytes s → (at b : ℕ) → b < 4 → getD (bytes 4 (word32 s at)) b 0 ≡ getD s (at + b) 0
 word-bytes s h at b lt =
@@ -87,28 +94,18 @@ source-fits n i h lt =
 pub lanes-loaded : (n : ℕ) (s t : List ℕ) → n % 4 ≡ 0 → length s ≡ 4 * n → Bytes s
     → ((i : ℕ) → i < n → getD t i 0 ≡ word32 s (laneSource n i)) → (l : ℕ) → l < 4 → laneBytes l (n / 4) t ≡ part (l * n) n s
 lanes-loaded n s t h long small words l hl =
-    ext-getD 0 (laneBytes l (n / 4) t) (part (l * n) n s) (size ∙ sym whole) (λ x lt. at x (omega (arith, size)))
-  where
-    low : l ≤ 3
-    low = omega arith
-
-    whole : length (part (l * n) n s) ≡ n
-    whole = part-length (l * n) n s (omega (arith, mul-le-mul-right n low))
-
-    size : length (laneBytes l (n / 4) t) ≡ n
-    size = laneBytes-length l (n / 4) t ∙ omega arith
-
-    at : (x : ℕ) → x < n → getD (laneBytes l (n / 4) t) x 0 ≡ getD (part (l * n) n s) x 0
-    at x lt =
-        let here : (4 * (x / 4) + l) % 4 ≡ l = omega arith in
-        let rest : 4 * (x / 4) + l - (4 * (x / 4) + l) % 4 ≡ 4 * (x / 4) = omega arith in
-        let place : l * n + 4 * (x / 4) + x % 4 ≡ l * n + x = omega arith in
-        laneBytes-at l (n / 4) t x (omega arith)
-        ∙ ap (λ (w : ℕ). getD (bytes 4 w) (x % 4) 0) (words (4 * (x / 4) + l) (omega arith))
-        ∙ word-bytes s small (laneSource n (4 * (x / 4) + l)) (x % 4) (omega arith)
-        ∙ ap₂ (λ (a b : ℕ). getD s (a * n + b + x % 4) 0) here rest
-        ∙ ap (λ (i : ℕ). getD s i 0) place
-        ∙ sym (part-at (l * n) n s x lt)
+    let low : l ≤ 3 = omega arith in
+    let whole = part-length (l * n) n s (omega (arith, mul-le-mul-right n low)) in
+    lane-is l (n / 4) t (part (l * n) n s) (whole ∙ omega arith)
+    (λ x lt.
+    let here : (4 * (x / 4) + l) % 4 ≡ l = omega arith in
+    let rest : 4 * (x / 4) + l - (4 * (x / 4) + l) % 4 ≡ 4 * (x / 4) = omega arith in
+    let place : l * n + 4 * (x / 4) + x % 4 ≡ l * n + x = omega arith in
+    ap (λ (w : ℕ). getD (bytes 4 w) (x % 4) 0) (words (4 * (x / 4) + l) (omega arith))
+    ∙ word-bytes s small (laneSource n (4 * (x / 4) + l)) (x % 4) (omega arith)
+    ∙ ap₂ (λ (a b : ℕ). getD s (a * n + b + x % 4) 0) here rest
+    ∙ ap (λ (i : ℕ). getD s i 0) place
+    ∙ sym (part-at (l * n) n s x (omega arith)))
 
 -- ---- something added to a part of four lanes: place a of the words is place a of each lane's bytes
 

@@ -3,6 +3,7 @@ pub mod Xor
 pub mod Sums
 pub mod Lists
 pub mod Concat
+pub mod Layouts
 pub mod Progress
 pub mod Numbers
 pub mod Lanes

@@ -1,18 +1,19 @@
 -- Laws of lists with something added to each element, or laid over a part. Assumes nothing.
 use mathlib.Core.Path.{_≡_, refl, sym, ap, ap₂, _∙_, subst}
-use mathlib.Core.List.{List, [], _∷_, _++_}
+use mathlib.Core.List.{List, [], _∷_, _++_, append-nil, append-assoc}
 use Prim.Native.Nat.{ℕ, zero, suc, _+_, _-_, _*_, _/_, _%_, _≤_, _<_}
 use native.Mathlib.Nat.{le-of-suc-le-suc, not-suc-le-zero, zero-add, suc-add, zero-mul, one-mul}
 use native.Mathlib.Omega.{arith}
 use native.Mathlib.Decide.{decLt, ℕ-discrete}
-use lib.Bits.{bitXor, xor-lt, xor-zero-r, xor-comm, xor-self}
-use lib.ListN.{length, getD, set, take, drop, replicate, length-replicate, getD-replicate, length-set, length-append, length-drop, length-take, List·getD-append, List·getD-eq-default}
-use lib.Seq.{getD-at, ext-getD, getD-set-same, getD-set-other, getD-take, getD-drop, getD-append-add, length-take-le}
-use borrow.Rule.Slice.PartMut.{putMid, post-is}
+use lib.Bits.{bitXor, xor-lt, xor-zero-l, xor-zero-r, xor-comm, xor-self}
+use lib.ListN.{length, getD, set, take, drop, replicate, length-replicate, getD-replicate, length-set, length-append, length-drop, length-take, drop-of-length-le, List·getD-append, List·getD-eq-default}
+use lib.Seq.{getD-at, ext-getD, getD-set-same, getD-set-other, getD-take, getD-drop, getD-append-add, take-at, length-take-le}
+use borrow.Rule.Slice.PartMut.{putMid, post-is, same-len-mid, mid-len}
 use Rattle.words.specs.Bytes.{Bytes, tabulate, part, put}
 use Rattle.words.specs.Bits.{bitOf, bitAt}
 use Rattle.words.specs.Xor.{xorEach, xorPart, xorList, scale}
 use Rattle.words.proofs.Xor.{bit-xor, xor-assoc, scale-xor, scale-lt}
+use Rattle.words.proofs.Concat.{part-length}
 
 -- ---- a list by its elements
 
@@ -133,6 +134,17 @@ zeros-part m n i = here (decLt i n)
     here (no h) =
         let past : length (take n zs) ≤ i = omega (arith, length-take n zs) in
         List·getD-eq-default (take n zs) 0 past
+
+-- a part of an array of m zeros, to work in
+pub cut-length : (n m : ℕ) → n ≤ m → length (take (n - 0) (replicate {A = ℕ} m 0)) ≡ n
+cut-length n m h =
+    let all : n - 0 ≡ n = omega arith in
+    length-take-le (n - 0) (replicate {A = ℕ} m 0) (omega (arith, length-replicate {A = ℕ} m 0)) ∙ all
+
+-- zeros with f added are f
+pub zeros-sum : (zs l : List ℕ) (f : ℕ → ℕ) → ((i : ℕ) → getD zs i 0 ≡ 0) → l ≡ xorEach zs f → (i : ℕ) → i < length zs → getD l i 0 ≡ f i
+zeros-sum zs l f none made i h =
+    ap (λ (m : List ℕ). getD m i 0) made ∙ xorEach-at zs f i h ∙ ap (λ (x : ℕ). bitXor x (f i)) (none i) ∙ xor-zero-l (f i)
 
 -- ---- parts of a sum
 
@@ -331,14 +343,24 @@ module _ (d : List ℕ) (at : ℕ) (s : List ℕ) (fits : at + length s ≤ leng
   unfolding put
   put-after = mid-after d s at (length s) fits refl
 
+-- a range laid over a place stands after what was before that place
+pub put-front : (d : List ℕ) (at : ℕ) (s : List ℕ) → at ≤ length d → take (at + length s) (put d at s) ≡ take at d ++ s
+unfolding put
+put-front d at s h =
+    ap (take (at + length s)) (sym (append-assoc (take at d) s (drop (at + length s) d)))
+    ∙ take-at (take at d ++ s) (drop (at + length s) d) (at + length s)
+    (length-append (take at d) s ∙ ap (λ (n : ℕ). n + length s) (length-take-le at d h))
+
+-- a range laid over all of another
+pub put-all : (d s : List ℕ) → length s ≡ length d → put d 0 s ≡ s
+unfolding put
+put-all d s e = ap (λ (r : List ℕ). s ++ r) (drop-of-length-le d {i = 0 + length s} (omega (arith, e))) ∙ append-nil s
+
 -- ---- a part with something added
 
 module _ (l : List ℕ) (a n : ℕ) (f : ℕ → ℕ) (fits : a + n ≤ length l) where
-  part-length : length (take n (drop a l)) ≡ n
-  part-length = length-take-le n (drop a l) (omega (arith, length-drop a l))
-
   added-length : length (xorEach (take n (drop a l)) f) ≡ n
-  added-length = xorEach-length (take n (drop a l)) f ∙ part-length
+  added-length = xorEach-length (take n (drop a l)) f ∙ part-length a n l fits
 
   pub xorPart-length : length (xorPart l a n f) ≡ length l
   unfolding xorPart
@@ -352,7 +374,7 @@ module _ (l : List ℕ) (a n : ℕ) (f : ℕ → ℕ) (fits : a + n ≤ length l
   unfolding xorPart
   xorPart-in k h =
       mid-in l (xorEach (take n (drop a l)) f) a n fits added-length k h
-      ∙ xorEach-at (take n (drop a l)) f k (omega (arith, part-length))
+      ∙ xorEach-at (take n (drop a l)) f k (omega (arith, part-length a n l fits))
       ∙ ap (λ (x : ℕ). bitXor x (f k)) (getD-take n (drop a l) k 0 h ∙ getD-drop a l k 0)
 
   pub xorPart-after : (k : ℕ) → a + n ≤ k → getD (xorPart l a n f) k 0 ≡ getD l k 0
@@ -391,3 +413,19 @@ part-added a e n xs ys f q h =
     let m : e - a ≡ n = omega arith in
     ap₂ (λ (p r : List ℕ). take a xs ++ (p ++ r)) (h ∙ ap (λ (k : ℕ). xorEach (take k (drop a xs)) f) m)
     (post-is a e xs (omega arith) ∙ ap (λ (k : ℕ). drop k xs) q)
+
+-- a range keeps its length
+pub kept-length : (a e : ℕ) (xs ys new : List ℕ) → ys ≡ new → length new ≡ e - a → e ≤ length xs
+    → length (putMid a (e - a) xs ys) ≡ length xs
+kept-length a e xs ys new made size fits =
+    same-len-mid a (e - a) xs ys (ap length made ∙ size ∙ sym (mid-len a e xs fits))
+
+-- a range has s laid over its front, and all the rest comes back as new
+pub after-front : (d s xs ys new : List ℕ) (n e : ℕ) → xs ≡ put d 0 s → ys ≡ new → length s ≡ n → length d ≡ e → n ≤ e
+    → putMid n (e - n) xs ys ≡ s ++ new
+after-front d s xs ys new n e laid made long size h =
+    let whole : n ≡ 0 + length s = omega arith in
+    let front = ap₂ (λ (k : ℕ) (l : List ℕ). take k l) whole laid ∙ put-front d 0 s (omega arith) in
+    let kept = ap length laid ∙ put-length d 0 s (omega arith) ∙ size in
+    ap₂ (λ (p q : List ℕ). p ++ (ys ++ q)) front (post-is n e xs h ∙ drop-of-length-le xs {i = e} (omega (arith, kept)))
+    ∙ ap (λ (q : List ℕ). s ++ q) (append-nil ys ∙ made)

@@ -9,18 +9,19 @@ use Rattle.words.specs.Bytes.{part}
 use Rattle.words.specs.Lanes.{laneBytes}
 use Rattle.words.proofs.Concat.{place-fits}
 use Rattle.words.proofs.LaneBytes.{laneBytes-length}
-use Rattle.columns.proofs.Layouts.{Filled, filled-none, filled-one, filled-all, columns-fit}
+use Rattle.words.proofs.Layouts.{Laid, laid-none, laid-one, laid-all}
+use Rattle.columns.proofs.Tables.{columns-fit}
 use Rattle.columns.proofs.store_tree.Statement.{statement}
 use Rattle.columns.proofs.store_tree.Tie as tie
 
 abbrev Inv-loop : tie.InvT-loop
-Inv-loop k len stride v l out₀ b₀ out b = Filled k len (λ b. laneBytes l (len / 4) (part (b * stride) len v)) b out
+Inv-loop k len stride v l out₀ b₀ out b = Laid k len (λ b. laneBytes l (len / 4) (part (b * stride) len v)) b out
 
 abbrev μ-loop : tie.MeasureT-loop
 μ-loop k len stride v l out₀ b₀ out b = k - b
 
 loop-holds : tie.Need-loop-holds Inv-loop μ-loop
-loop-holds c = let s = c .before .before in filled-none (s .args .k) (s .args .len) _ _ (s .pre .1 .1)
+loop-holds c = let s = c .before .before in laid-none (s .args .k) (s .args .len) _ _ (s .pre .1 .1)
 
 -- column b is within v and out
 abbrev Room : ℕ → ℕ → ℕ → ℕ → ℕ → ℕ → Type 0
@@ -117,7 +118,7 @@ loop-again c =
     c .before .before .store-lane .ensures
     ∙ ap (λ (m : ℕ). laneBytes l (m / 4) (part from (from + len - from) v)) long
     ∙ ap (λ (m : ℕ). laneBytes l (len / 4) (part from m v)) whole in
-    filled-one (s .args .k) len f (w .b) (w .out) _ stored (λ b h. laneBytes-length l (len / 4) (part (b * s .args .stride) len v) ∙ four)
+    laid-one (s .args .k) len f (w .b) (w .out) _ stored (λ b h. laneBytes-length l (len / 4) (part (b * s .args .stride) len v) ∙ four)
     (c .before .before .before .before .before .loop-test .taken) (w .inv)
 
 same-length : tie.Need-same-length Inv-loop μ-loop
@@ -126,7 +127,7 @@ same-length c = c .before .loop .inv .len ∙ sym (c .before .before .before .be
 returns : tie.Need-returns Inv-loop μ-loop
 returns c =
     let s = c .before .before .before .before in
-    filled-all (s .args .k) (s .args .len) _ (c .before .loop .b) (c .before .loop .out) (omega arith) (c .before .loop .inv)
+    laid-all (s .args .k) (s .args .len) _ (c .before .loop .b) (c .before .loop .out) (omega arith) (c .before .loop .inv)
 
 pub store-tree-spec : {M : Type 1} → statement M
 store-tree-spec =

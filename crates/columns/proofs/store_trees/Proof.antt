@@ -9,13 +9,14 @@ use Rattle.words.specs.Bytes.{part, concat}
 use Rattle.words.specs.Lanes.{laneBytes}
 use Rattle.words.proofs.Concat.{place-fits, concat-length}
 use Rattle.words.proofs.LaneBytes.{laneBytes-length}
-use Rattle.columns.proofs.Layouts.{Filled, filled-none, filled-one, filled-all, columns-fit}
+use Rattle.words.proofs.Layouts.{Laid, laid-none, laid-one, laid-all}
+use Rattle.columns.proofs.Tables.{columns-fit}
 use Rattle.columns.proofs.store_trees.Statement.{statement}
 use Rattle.columns.proofs.store_trees.Tie as tie
 
 abbrev Inv-loop : tie.InvT-loop
 Inv-loop k len stride v out₀ size l₀ out l =
-    Filled 4 (k * len) (λ l. concat k (λ b. laneBytes l (len / 4) (part (b * stride) len v))) l out
+    Laid 4 (k * len) (λ l. concat k (λ b. laneBytes l (len / 4) (part (b * stride) len v))) l out
 
 abbrev μ-loop : tie.MeasureT-loop
 μ-loop k len stride v out₀ size l₀ out l = 4 - l
@@ -27,7 +28,7 @@ mul-size c =
     omega (arith, columns-fit (s .args .k) (s .args .len) (s .pre .0 .0) short)
 
 loop-holds : tie.Need-loop-holds Inv-loop μ-loop
-loop-holds c = let s = c .before .before in filled-none 4 (s .args .k * s .args .len) _ _ (s .pre .1 .1)
+loop-holds c = let s = c .before .before in laid-none 4 (s .args .k * s .args .len) _ _ (s .pre .1 .1)
 
 -- tree l is within out
 abbrev Room : ℕ → ℕ → ℕ → ℕ → Type 0
@@ -85,7 +86,7 @@ loop-again c =
     let v = s .args .v .now in
     let f : ℕ → List ℕ = λ l. concat k (λ b. laneBytes l (len / 4) (part (b * s .args .stride) len v)) in
     let four : 4 * (len / 4) ≡ len = omega (arith, s .pre .0 .3) in
-    filled-one 4 (k * len) f (w .l) (w .out) _ (c .before .before .store-tree .ensures)
+    laid-one 4 (k * len) f (w .l) (w .out) _ (c .before .before .store-tree .ensures)
     (λ l h.
     concat-length (λ b. laneBytes l (len / 4) (part (b * s .args .stride) len v)) len k
     (λ b h. laneBytes-length l (len / 4) (part (b * s .args .stride) len v) ∙ four))
@@ -97,7 +98,7 @@ same-length c = c .before .loop .inv .len ∙ sym (c .before .before .before .be
 returns : tie.Need-returns Inv-loop μ-loop
 returns c =
     let s = c .before .before .before .before in
-    filled-all 4 (s .args .k * s .args .len) _ (c .before .loop .l) (c .before .loop .out) (omega arith) (c .before .loop .inv)
+    laid-all 4 (s .args .k * s .args .len) _ (c .before .loop .l) (c .before .loop .out) (omega arith) (c .before .loop .inv)
 
 pub store-trees-spec : {M : Type 1} → statement M
 store-trees-spec =

@@ -4,10 +4,11 @@ use mathlib.Core.List.{List}
 use Prim.Native.Nat.{ℕ, _+_, _*_}
 use borrow.Author.Needs.{needs}
 use Rattle.words.specs.Bytes.{part, put, concat}
+use Rattle.words.proofs.Lists.{put-all}
 use Rattle.words.proofs.Concat.{concat-length}
 use Rattle.sha256.specs.Four.{digests}
 use Rattle.pads.specs.Pads.{padOf}
-use Rattle.pads.proofs.Inputs.{pad-length, put-all, four-hashed}
+use Rattle.pads.proofs.Inputs.{pad-length, four-hashed}
 use Rattle.pads.proofs.four_pads.Statement.{statement}
 use Rattle.pads.proofs.four_pads.Tie as tie
 
@@ -41,7 +42,7 @@ returns c =
     (b .before .before .before .digest .ensures
     ∙ ap digests (b .before .before .before .before .before .four-inputs .ensures)
     ∙ four-hashed (a .batch) (a .first) (a .values .now) (s .pre .1))
-    ∙ put-all (a .pads .now) (concat 4 f) (s .pre .2 ∙ sym long)
+    ∙ put-all (a .pads .now) (concat 4 f) (long ∙ sym (s .pre .2))
 
 pub four-pads-spec : {M : Type 1} → statement M
 four-pads-spec =

@@ -11,7 +11,7 @@ use Rattle.words.specs.Bytes.{part}
 use Rattle.words.specs.Xor.{xorList}
 use Rattle.words.proofs.Lists.{xorEach-length}
 use Rattle.words.proofs.Concat.{place-fits, part-length}
-use Rattle.columns.proofs.Layouts.{Filled, filled-none, filled-one, filled-all, rest-one}
+use Rattle.words.proofs.Layouts.{Laid, laid-none, laid-one, laid-all, rest-one}
 use Rattle.receiver_columns.proofs.add_choices.Statement.{statement}
 use Rattle.receiver_columns.proofs.add_choices.Tie as tie
 
@@ -21,7 +21,7 @@ added choices correction i = xorList (part (i * length choices) (length choices)
 
 abbrev Inv-loop : tie.InvT-loop
 Inv-loop n choices correction₀ len c₀ correction c =
-    Filled n (length choices) (added choices correction₀) c correction
+    Laid n (length choices) (added choices correction₀) c correction
     × (drop (c * length choices) correction ≡ drop (c * length choices) correction₀)
 
 abbrev μ-loop : tie.MeasureT-loop
@@ -30,7 +30,7 @@ abbrev μ-loop : tie.MeasureT-loop
 loop-holds : tie.Need-loop-holds Inv-loop μ-loop
 loop-holds c =
     let s = c .before .before in
-    (filled-none (s .args .n) (length (s .args .choices .now)) _ _ (s .pre .2), refl)
+    (laid-none (s .args .n) (length (s .args .choices .now)) _ _ (s .pre .2), refl)
 
 -- correction i is within all of them
 abbrev Room : ℕ → ℕ → ℕ → ℕ → Type 0
@@ -96,7 +96,7 @@ loop-again c =
     c .before .before .xor-into .ensures
     ∙ ap (λ (d : List ℕ). xorList (take (a + len - a) d) choices) (w .inv .1)
     ∙ ap (λ (m : ℕ). xorList (take m (drop a old)) choices) back in (
-      filled-one n len f (w .c) (w .correction) _ made each test (w .inv .0),
+      laid-one n len f (w .c) (w .correction) _ made each test (w .inv .0),
       rest-one len (w .c) (w .correction) _ old (f (w .c)) made (each (w .c) test) (here .3) (w .inv .1),
     )
 
@@ -106,7 +106,7 @@ same-length c = c .before .loop .inv .0 .len ∙ sym (c .before .before .before 
 returns : tie.Need-returns Inv-loop μ-loop
 returns c =
     let s = c .before .before .before .before in
-    filled-all (s .args .n) (length (s .args .choices .now)) _ (c .before .loop .c) (c .before .loop .correction) (omega arith)
+    laid-all (s .args .n) (length (s .args .choices .now)) _ (c .before .loop .c) (c .before .loop .correction) (omega arith)
     (c .before .loop .inv .0)
 
 pub add-choices-spec : {M : Type 1} → statement M

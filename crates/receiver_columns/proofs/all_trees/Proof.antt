@@ -9,7 +9,7 @@ use borrow.Rule.Slice.PartMut.{putMid, same-len-mid, mid-len}
 use Rattle.words.specs.Bytes.{concat}
 use Rattle.tree.specs.Layout.{treesOf, rootOf}
 use Rattle.columns.specs.Columns.{tableOf, uOf, receiverColumn, receiverTable}
-use Rattle.columns.proofs.Layouts.{both}
+use Rattle.words.proofs.Layouts.{both}
 use Rattle.receiver_columns.proofs.Starts.{u-length, columns-length, whole, front-root, front-trees, later-trees}
 use Rattle.receiver_columns.proofs.all_trees.Statement.{statement}
 use Rattle.receiver_columns.proofs.all_trees.Tie as tie

@@ -1,13 +1,13 @@
 -- `receiver_columns::start` meets its contract: it lends its work space, and adds the choices to the sums. Assumes nothing.
-use mathlib.Core.Path.{_≡_, sym, ap, _∙_}
+use mathlib.Core.Path.{sym, ap, _∙_}
 use Prim.Native.Nat.{ℕ, suc, _-_, _*_, _≤_}
 use native.Mathlib.Omega.{arith}
-use lib.ListN.{length, take, replicate, length-replicate}
-use lib.Seq.{length-take-le}
+use lib.ListN.{length}
 use borrow.Author.Needs.{needs}
 use Rattle.tree.specs.Layout.{treesOf, rootOf}
 use Rattle.columns.specs.Columns.{uOf, correctionOf}
-use Rattle.columns.proofs.Layouts.{columns-fit}
+use Rattle.words.proofs.Lists.{cut-length}
+use Rattle.columns.proofs.Tables.{columns-fit}
 use Rattle.receiver_columns.proofs.Starts.{u-length, whole, corrected}
 use Rattle.receiver_columns.proofs.start.Statement.{statement}
 use Rattle.receiver_columns.proofs.start.Tie as tie
@@ -61,12 +61,8 @@ all-trees-requires c κs =
     let w = whole k len len (s .pre .0) (s .pre .4) (omega arith) in
     let short : r .result ≤ 128 = omega (arith, r .ensures, s .pre .4) in
     let size = columns-fit k (r .result) (w .low) short in
-    let back : r .result - 0 ≡ r .result = omega arith in
-    let back₂ : k * r .result - 0 ≡ k * r .result = omega arith in
-    let u : length (take (r .result - 0) (replicate {A = ℕ} 128 0)) ≡ r .result =
-    length-take-le (r .result - 0) (replicate {A = ℕ} 128 0) (omega (arith, length-replicate {A = ℕ} 128 0, short)) ∙ back in
-    let v : length (take (k * r .result - 0) (replicate {A = ℕ} 1024 0)) ≡ k * r .result =
-    length-take-le (k * r .result - 0) (replicate {A = ℕ} 1024 0) (omega (arith, length-replicate {A = ℕ} 1024 0, size)) ∙ back₂ in (
+    let u = cut-length (r .result) 128 short in
+    let v = cut-length (k * r .result) 1024 size in (
       (
         s .pre .0,
         omega (arith, s .pre .2),

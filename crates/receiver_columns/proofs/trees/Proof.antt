@@ -8,7 +8,8 @@ use borrow.Rule.Slice.PartMut.{mid-len}
 use Rattle.words.specs.Bytes.{concat}
 use Rattle.tree.specs.Layout.{rootOf}
 use Rattle.columns.specs.Columns.{uOf, receiverColumn}
-use Rattle.columns.proofs.Layouts.{Filled, filled-none, filled-more, filled-all, columns-fit}
+use Rattle.words.proofs.Layouts.{Laid, laid-none, laid-more, laid-all}
+use Rattle.columns.proofs.Tables.{columns-fit}
 use Rattle.receiver_columns.proofs.Starts.{u-length, columns-length, roots-from}
 use Rattle.receiver_columns.proofs.trees.Statement.{statement}
 use Rattle.receiver_columns.proofs.trees.Tie as tie
@@ -18,8 +19,8 @@ Inv-loop k n len batch roots u₀ v₀ us₀ table₀ size i₀ u v us table i =
     (i % 4 ≡ 0)
     × (length u ≡ length u₀)
     × (length v ≡ length v₀)
-    × Filled n len (λ j. uOf k batch len (rootOf roots j)) i us
-    × Filled n (k * len) (λ j. concat k (receiverColumn k batch len (rootOf roots j))) i table
+    × Laid n len (λ j. uOf k batch len (rootOf roots j)) i us
+    × Laid n (k * len) (λ j. concat k (receiverColumn k batch len (rootOf roots j))) i table
 
 abbrev μ-loop : tie.MeasureT-loop
 μ-loop k n len batch roots u₀ v₀ us₀ table₀ size i₀ u v us table i = n - i
@@ -36,8 +37,8 @@ loop-holds c =
       omega arith,
       refl,
       refl,
-      filled-none (s .args .n) (s .args .len) _ _ (s .pre .1 .3),
-      filled-none (s .args .n) (s .args .k * s .args .len) _ _ (s .pre .1 .4),
+      laid-none (s .args .n) (s .args .len) _ _ (s .pre .1 .3),
+      laid-none (s .args .n) (s .args .k * s .args .len) _ _ (s .pre .1 .4),
     )
 
 -- four trees from tree i on, where a range has m bytes for each tree
@@ -156,9 +157,9 @@ loop-again c =
       omega (arith, w .inv .0),
       call .four-trees .kept .1 .1 .1 .1 .0 ∙ w .inv .1,
       call .four-trees .kept .1 .1 .1 .1 .1 .0 ∙ w .inv .2,
-      filled-more n len (λ j. uOf k batch len (rootOf roots j)) (w .i) 4 (w .us) _
+      laid-more n len (λ j. uOf k batch len (rootOf roots j)) (w .i) 4 (w .us) _
           (call .four-trees .ensures .0 ∙ roots-from (uOf k batch len) (w .i) roots) (λ j h. u-length k batch len (rootOf roots j)) next (w .inv .3),
-      filled-more n (k * len) (λ j. concat k (receiverColumn k batch len (rootOf roots j))) (w .i) 4 (w .table) _
+      laid-more n (k * len) (λ j. concat k (receiverColumn k batch len (rootOf roots j))) (w .i) 4 (w .table) _
           (call .four-trees .ensures .1 ∙ roots-from (λ r. concat k (receiverColumn k batch len r)) (w .i) roots)
           (λ j h. columns-length k batch len (rootOf roots j)) next (w .inv .4),
     )
@@ -179,8 +180,8 @@ returns : tie.Need-returns Inv-loop μ-loop
 returns c =
     let s = c .before .before .before .before .before .before .before in
     let w = c .before .loop in (
-      filled-all (s .args .n) (s .args .len) _ (w .i) (w .us) (omega arith) (w .inv .3),
-      filled-all (s .args .n) (s .args .k * s .args .len) _ (w .i) (w .table) (omega arith) (w .inv .4),
+      laid-all (s .args .n) (s .args .len) _ (w .i) (w .us) (omega arith) (w .inv .3),
+      laid-all (s .args .n) (s .args .k * s .args .len) _ (w .i) (w .table) (omega arith) (w .inv .4),
     )
 
 pub trees-spec : {M : Type 1} → statement M

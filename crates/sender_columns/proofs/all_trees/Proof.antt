@@ -2,12 +2,11 @@
 use mathlib.Core.Path.{_≡_, refl, sym, ap, _∙_, subst}
 use mathlib.Core.List.{List}
 use denote.Ref.{now}
-use Prim.Native.Nat.{ℕ, _+_, _-_, _*_, _%_, _≤_, _<_}
+use Prim.Native.Nat.{ℕ, _+_, _-_, _*_, _%_, _≤_}
 use native.Mathlib.Nat.{mul-le-mul-right, mul-assoc}
 use native.Mathlib.Omega.{arith}
-use lib.ListN.{length, getD}
+use lib.ListN.{length}
 use borrow.Rule.Slice.PartMut.{mid-len}
-use borrow.Author.Needs.{needs}
 use Rattle.words.specs.Bytes.{concat, part}
 use Rattle.words.proofs.Concat.{concat-same, concat-length, part-length, part-lt, place-part}
 use Rattle.tree.specs.Layout.{columns, treesOf, deltaOf, treePart}
@@ -15,7 +14,7 @@ use Rattle.tree.proofs.Widths.{width-fits, four-fit}
 use Rattle.tree.proofs.Sides.{sides-length, sides-lt}
 use Rattle.columns.specs.Columns.{senderColumn, senderTable, tableOf, treeCorrection}
 use Rattle.sender_columns.specs.Lanes.{SidesAre}
-use Rattle.columns.proofs.Layouts.{Filled, filled-none, filled-more, filled-all}
+use Rattle.words.proofs.Layouts.{Laid, laid-none, laid-more, laid-all}
 use Rattle.columns.proofs.Tables.{senderColumn-length}
 use Rattle.sender_columns.proofs.Groups.{four-sides}
 use Rattle.sender_columns.proofs.all_trees.Statement.{statement}
@@ -32,7 +31,7 @@ Inv-loop k len batch siblings delta correction s₀ u₀ v₀ table₀ sides n s
     × (length s ≡ 32 * k)
     × (length u ≡ length u₀)
     × (length v ≡ k * length u₀)
-    × Filled (treesOf k) (k * len) (treeColumns k len batch siblings delta correction) i table
+    × Laid (treesOf k) (k * len) (treeColumns k len batch siblings delta correction) i table
 
 abbrev μ-loop : tie.MeasureT-loop
 μ-loop k len batch siblings delta correction s₀ u₀ v₀ table₀ sides n size wide i₀ s u v table i = treesOf k - i
@@ -57,7 +56,7 @@ loop-holds c =
     let k = s .args .k in
     let whole : length (now (s .args .table)) ≡ treesOf k * (k * s .args .len) =
     s .pre .0 .4 ∙ ap (λ (n : ℕ). n * s .args .len) (sym (width-fits k (s .pre .0 .0) .columns)) ∙ mul-assoc (treesOf k) k (s .args .len) in
-    (omega arith, s .pre .1 .0, refl, s .pre .1 .4, filled-none (treesOf k) (k * s .args .len) _ (now (s .args .table)) whole)
+    (omega arith, s .pre .1 .0, refl, s .pre .1 .4, laid-none (treesOf k) (k * s .args .len) _ (now (s .args .table)) whole)
 
 -- there are 128 sides
 long : (c : tie.After-all Inv-loop μ-loop) → length (c .all .result) ≡ 128
@@ -206,7 +205,7 @@ loop-again c =
       f .kept .1 .1 .1 .1 .1 .1 .1 .0 ∙ w .inv .1,
       f .kept .1 .1 .1 .1 .1 .1 .1 .1 .0 ∙ w .inv .2,
       f .kept .1 .1 .1 .1 .1 .1 .1 .1 .1 .0 ∙ w .inv .3,
-      filled-more (treesOf k) (k * len) (treeColumns k len (s .args .batch) siblings delta correction) (w .i) 4 (w .table) _ made
+      laid-more (treesOf k) (k * len) (treeColumns k len (s .args .batch) siblings delta correction) (w .i) 4 (w .table) _ made
           (λ j h. concat-length _ len k (λ b hb. senderColumn-length k (s .args .batch) len _ _ _ b)) (here .0 .0) (w .inv .4),
     )
 
@@ -230,7 +229,7 @@ unfolding senderTable tableOf
 returns c =
     let s = c .before .before .before .before .before .before .before .before .before .before in
     let w = c .before .loop in
-    filled-all (treesOf (s .args .k)) (s .args .k * s .args .len) _ (w .i) (w .table) (omega (arith, c .loop-test .left)) (w .inv .4)
+    laid-all (treesOf (s .args .k)) (s .args .k * s .args .len) _ (w .i) (w .table) (omega (arith, c .loop-test .left)) (w .inv .4)
 
 pub all-trees-spec : {M : Type 1} → statement M
 all-trees-spec =

@@ -1,12 +1,11 @@
 -- `sender_columns::correct` meets its contract: it lends its work space. Assumes nothing.
-use mathlib.Core.Path.{_≡_, sym, ap, _∙_}
-use denote.Ref.{now}
+use mathlib.Core.Path.{sym, ap, _∙_}
 use Prim.Native.Nat.{ℕ, _-_, _*_, _≤_}
 use native.Mathlib.Omega.{arith}
-use lib.ListN.{length, take, replicate}
 use borrow.Author.Needs.{needs}
 use Rattle.tree.proofs.Widths.{width-fits}
-use Rattle.columns.proofs.Layouts.{columns-fit, cut-length}
+use Rattle.words.proofs.Lists.{cut-length}
+use Rattle.columns.proofs.Tables.{columns-fit}
 use Rattle.sender_columns.proofs.correct.Statement.{statement}
 use Rattle.sender_columns.proofs.correct.Tie as tie
 

@@ -1,14 +1,10 @@
 -- `setup::receiver::write_message` meets its contract: the message begins with those of the first i trees. Assumes nothing.
-use mathlib.Core.Path.{_≡_, sym, ap, _∙_}
+use mathlib.Core.Path.{_≡_, sym, _∙_}
 use mathlib.Core.List.{List}
 use Prim.Native.Nat.{ℕ, _+_, _-_, _*_, _%_, _≤_}
-use native.Mathlib.Nat.{zero-mul}
 use native.Mathlib.Omega.{arith}
-use lib.ListN.{length, take}
-use lib.Seq.{take-all}
 use borrow.Rule.Slice.PartMut.{mid-len}
-use Rattle.words.specs.Bytes.{concat}
-use Rattle.words.proofs.Concat.{concat-grow, concat-length}
+use Rattle.words.proofs.Layouts.{Laid, laid-none, laid-more, laid-all}
 use Rattle.tree.specs.Layout.{treesOf, rootOf, treePart}
 use Rattle.setup.specs.Setup.{treeMessage, messageOf}
 use Rattle.setup.proofs.Honest.{message-length}
@@ -19,10 +15,7 @@ use Rattle.setup.proofs.receiver.write_message.Tie as tie
 
 abbrev Inv-loop : tie.InvT-loop
 Inv-loop k roots pads message₀ n size i₀ message i =
-    (i % 4 ≡ 0)
-    × (i ≤ treesOf k)
-    × (length message ≡ 8192)
-    × (take (i * (64 * k)) message ≡ concat i (λ j. treeMessage k (rootOf roots j) (treePart k 64 j pads)))
+    (i % 4 ≡ 0) × Laid (treesOf k) (64 * k) (λ j. treeMessage k (rootOf roots j) (treePart k 64 j pads)) i message
 
 abbrev μ-loop : tie.MeasureT-loop
 μ-loop k roots pads message₀ n size i₀ message i = treesOf k - i
@@ -34,21 +27,25 @@ mul-size : tie.Need-mul-size Inv-loop μ-loop
 mul-size c = omega (arith, width-fits _ (c .before .before .before .pre .0) .low)
 
 loop-holds : tie.Need-loop-holds Inv-loop μ-loop
-unfolding concat
 loop-holds c =
     let s = c .before .before .before in
-    (omega arith, omega arith, s .pre .3, ap (λ (n : ℕ). take n (s .args .message .now)) (zero-mul (64 * s .args .k)))
+    (omega arith, laid-none _ _ _ (s .args .message .now) (s .pre .3 ∙ sym (width-fits _ (s .pre .0) .pairs)))
 
 -- four trees from tree i on are within the roots, the pads and the message
 abbrev Room : ℕ → ℕ → Type 0
-Room k i = (i + 4 ≤ treesOf k) × (treesOf k ≤ 128) × ((i + 4) * (64 * k) ≡ i * (64 * k) + 4 * (64 * k)) × ((i + 4) * (64 * k) ≤ 8192)
+Room k i =
+    (i + 4 ≤ treesOf k)
+    × (treesOf k ≤ 128)
+    × ((i + 4) * (64 * k) ≡ i * (64 * k) + 4 * (64 * k))
+    × ((i + 4) * (64 * k) ≤ treesOf k * (64 * k))
+    × (treesOf k * (64 * k) ≡ 8192)
 
 room : (c : tie.In-loop Inv-loop μ-loop) → Room (c .before .before .before .before .before .args .k) (c .before .loop .i)
 room c =
     let k = c .before .before .before .before .before .args .k in
     let fits = width-fits k (c .before .before .before .before .before .pre .0) in
     let four = four-fit k (c .before .loop .i) fits (c .before .loop .inv .0) (c .loop-test .taken) (64 * k) in
-    (four .0, fits .trees, four .1, omega (arith, four .2, fits .pairs))
+    (four .0, fits .trees, four .1, four .2, fits .pairs)
 
 add-next : tie.Need-add-next Inv-loop μ-loop
 add-next c = omega (arith, room c)
@@ -90,7 +87,7 @@ part-four-messages-start-3 : tie.Need-part-four-messages-start-3 Inv-loop μ-loo
 part-four-messages-start-3 c = omega (arith, room (c .before .before))
 
 part-four-messages-end-3 : tie.Need-part-four-messages-end-3 Inv-loop μ-loop
-part-four-messages-end-3 c = omega (arith, room (c .before .before), c .before .before .before .loop .inv .2)
+part-four-messages-end-3 c = omega (arith, room (c .before .before), c .before .before .before .loop .inv .1 .len)
 
 four-messages-requires : tie.Need-four-messages-requires Inv-loop μ-loop
 four-messages-requires c κs =
@@ -103,7 +100,7 @@ four-messages-requires c κs =
       width-fits _ (s .pre .0) .low,
       mid-len (w .i * 32) ((w .i + 4) * 32) (s .args .roots .now) (omega (arith, here, s .pre)) ∙ omega arith,
       mid-len a e (s .args .pads .now) (omega (arith, here, s .pre)) ∙ size,
-      mid-len a e (w .message) (omega (arith, here, w .inv .2)) ∙ size,
+      mid-len a e (w .message) (omega (arith, here, w .inv .1 .len)) ∙ size,
     )
 
 loop-less : tie.Need-loop-less Inv-loop μ-loop
@@ -116,27 +113,17 @@ loop-again c =
     let here = room (c .before .before .before .before .before .before) in
     let k = s .args .k in
     let f : ℕ → List ℕ = λ j. treeMessage k (rootOf (s .args .roots .now) j) (treePart k 64 j (s .args .pads .now)) in
-    let size = concat-length (λ j. f (w .i + j)) (64 * k) 4 (λ j h. message-length k _ _) in
-    let whole : 4 * (64 * k) ≡ (w .i + 4) * (64 * k) - w .i * (64 * k) = omega (arith, here) in
-    let grown = concat-grow f (w .i) 4 (w .i * (64 * k)) ((w .i + 4) * (64 * k)) (w .message) _
-    (c .before .before .four-messages .ensures ∙ four-from k (w .i) (s .args .roots .now) (s .args .pads .now))
-    (size ∙ whole) (omega (arith, here)) (omega (arith, here, w .inv .2)) (w .inv .3) in
-    (omega (arith, w .inv .0), here .0, grown .0 ∙ w .inv .2, grown .1)
+    let made = c .before .before .four-messages .ensures ∙ four-from k (w .i) (s .args .roots .now) (s .args .pads .now) in
+    (omega (arith, w .inv .0), laid-more (treesOf k) (64 * k) f (w .i) 4 (w .message) _ made (λ j h. message-length k _ _) (here .0) (w .inv .1))
 
 same-length : tie.Need-same-length Inv-loop μ-loop
-same-length c = c .before .loop .inv .2 ∙ sym (c .before .before .before .before .before .pre .3)
+same-length c =
+    let s = c .before .before .before .before .before in
+    c .before .loop .inv .1 .len ∙ width-fits _ (s .pre .0) .pairs ∙ sym (s .pre .3)
 
 returns : tie.Need-returns Inv-loop μ-loop
 unfolding messageOf
-returns c =
-    let s = c .before .before .before .before .before in
-    let w = c .before .loop in
-    let k = s .args .k in
-    let all : w .i ≡ treesOf k = omega (arith, w .inv .1) in
-    let end = ap (λ (i : ℕ). i * (64 * k)) all ∙ width-fits k (s .pre .0) .pairs in
-    sym (take-all (w .i * (64 * k)) (w .message) (omega (arith, end, w .inv .2)))
-    ∙ w .inv .3
-    ∙ ap (λ (i : ℕ). concat i (λ j. treeMessage k (rootOf (s .args .roots .now) j) (treePart k 64 j (s .args .pads .now)))) all
+returns c = laid-all _ _ _ _ (c .before .loop .message) (omega arith) (c .before .loop .inv .1)
 
 pub write-message-spec : {M : Type 1} → statement M
 write-message-spec =

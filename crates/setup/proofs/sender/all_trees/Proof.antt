@@ -1,17 +1,14 @@
 -- `setup::sender::all_trees` meets its contract: the first i trees have their nodes, and the others their totals still. Assumes nothing.
-use mathlib.Core.Path.{_≡_, refl, sym, ap, _∙_}
+use mathlib.Core.Path.{_≡_, refl, sym, _∙_}
 use mathlib.Core.List.{List}
-use Prim.Native.Nat.{ℕ, zero, _+_, _-_, _*_, _%_, _≤_}
+use Prim.Native.Nat.{ℕ, _+_, _-_, _*_, _%_, _≤_}
 use native.Mathlib.Omega.{arith}
-use lib.ListN.{length, getD, take, drop}
-use native.Mathlib.Nat.{zero-mul}
-use lib.Seq.{take-all}
+use lib.ListN.{getD, drop}
 use borrow.Rule.Slice.PartMut.{mid-len}
-use Rattle.words.specs.Bytes.{concat}
-use Rattle.words.proofs.Concat.{concat-grow, concat-length, part-lt, rest-kept}
+use Rattle.words.proofs.Concat.{concat-length, part-lt, rest-kept}
+use Rattle.words.proofs.Layouts.{Laid, laid-none, laid-more, laid-all}
 use Rattle.tree.specs.Layout.{treesOf, treePart}
 use Rattle.setup.specs.Setup.{nodesFound}
-use Rattle.setup.specs.Found.{foundIn}
 use Rattle.tree.proofs.Widths.{width-fits, four-fit}
 use Rattle.setup.proofs.Levels.{found-length, four-found}
 use Rattle.setup.proofs.sender.all_trees.Statement.{statement}
@@ -20,9 +17,7 @@ use Rattle.setup.proofs.sender.all_trees.Tie as tie
 abbrev Inv-loop : tie.InvT-loop
 Inv-loop k sides siblings₀ n size i₀ siblings i =
     (i % 4 ≡ 0)
-    × (i ≤ treesOf k)
-    × (length siblings ≡ 4096)
-    × (take (i * (32 * k)) siblings ≡ foundIn k i sides siblings₀)
+    × Laid (treesOf k) (32 * k) (λ j. nodesFound (λ l. getD sides (j * k + l) 0) (treePart k 32 j siblings₀) k) i siblings
     × (drop (i * (32 * k)) siblings ≡ drop (i * (32 * k)) siblings₀)
 
 abbrev μ-loop : tie.MeasureT-loop
@@ -35,9 +30,9 @@ mul-size : tie.Need-mul-size Inv-loop μ-loop
 mul-size c = omega (arith, width-fits _ (c .before .before .pre .0) .low)
 
 loop-holds : tie.Need-loop-holds Inv-loop μ-loop
-unfolding concat
-loop-holds c = let s = c .before .before in
-    (omega arith, omega arith, s .pre .3, ap (λ (n : ℕ). take n (s .args .siblings .now)) (zero-mul (32 * s .args .k)), refl)
+loop-holds c =
+    let s = c .before .before in
+    (omega arith, laid-none _ _ _ (s .args .siblings .now) (s .pre .3 ∙ sym (width-fits _ (s .pre .0) .single)), refl)
 
 -- four trees from tree i on are within the sides and the siblings
 abbrev Room : ℕ → ℕ → Type 0
@@ -45,7 +40,8 @@ Room k i =
     (i + 4 ≤ treesOf k)
     × (treesOf k ≤ 128)
     × ((i + 4) * (32 * k) ≡ i * (32 * k) + 4 * (32 * k))
-    × ((i + 4) * (32 * k) ≤ 4096)
+    × ((i + 4) * (32 * k) ≤ treesOf k * (32 * k))
+    × (treesOf k * (32 * k) ≡ 4096)
     × ((i + 4) * k ≡ i * k + 4 * k)
     × ((i + 4) * k ≤ 128)
 
@@ -56,7 +52,7 @@ room c =
     let four = four-fit k (c .before .loop .i) fits (c .before .loop .inv .0) (c .loop-test .taken) in
     let sides = four k in
     let nodes = four (32 * k) in
-    (sides .0, fits .trees, nodes .1, omega (arith, nodes .2, fits .single), sides .1, omega (arith, sides .2, fits .columns))
+    (sides .0, fits .trees, nodes .1, nodes .2, fits .single, sides .1, omega (arith, sides .2, fits .columns))
 
 add-next : tie.Need-add-next Inv-loop μ-loop
 add-next c = omega (arith, room c)
@@ -89,7 +85,7 @@ part-four-trees-start-2 : tie.Need-part-four-trees-start-2 Inv-loop μ-loop
 part-four-trees-start-2 c = omega (arith, room (c .before))
 
 part-four-trees-end-2 : tie.Need-part-four-trees-end-2 Inv-loop μ-loop
-part-four-trees-end-2 c = omega (arith, room (c .before), c .before .before .loop .inv .2)
+part-four-trees-end-2 c = omega (arith, room (c .before), c .before .before .loop .inv .1 .len)
 
 four-trees-requires : tie.Need-four-trees-requires Inv-loop μ-loop
 four-trees-requires c κs = let s = c .before .before .before .before .before .before in
@@ -103,7 +99,7 @@ four-trees-requires c κs = let s = c .before .before .before .before .before .b
       fits .low,
       mid-len (w .i * k) ((w .i + 4) * k) (s .args .sides .now) (omega (arith, here, s .pre .1)) ∙ size₂,
       part-lt (w .i * k) ((w .i + 4) * k - w .i * k) (s .args .sides .now) 2 (omega arith) (s .pre .2),
-      mid-len (w .i * (32 * k)) ((w .i + 4) * (32 * k)) (w .siblings) (omega (arith, here, w .inv .2)) ∙ size,
+      mid-len (w .i * (32 * k)) ((w .i + 4) * (32 * k)) (w .siblings) (omega (arith, here, w .inv .1 .len)) ∙ size,
     )
 
 loop-less : tie.Need-loop-less Inv-loop μ-loop
@@ -124,24 +120,19 @@ loop-again c =
     let turn : k * 32 ≡ m = omega arith in
     let whole : 4 * m ≡ e - a = omega (arith, here) in
     let size = concat-length (λ j. f (w .i + j)) m 4 (λ j h. found-length _ _ k ∙ turn) ∙ whole in
-    let made = c .before .before .four-trees .ensures ∙ four-found k (w .i) sides totals (w .siblings) (w .inv .4) in
-    let grown = concat-grow f (w .i) 4 a e (w .siblings) _ made size (omega (arith, here)) (omega (arith, here, w .inv .2)) (w .inv .3) in
-    let rest = rest-kept a e (w .siblings) _ totals _ made size (omega (arith, here)) (omega (arith, here, w .inv .2)) (w .inv .4) in
-    (omega (arith, w .inv .0), here .0, grown .0 ∙ w .inv .2, grown .1, rest)
+    let made = c .before .before .four-trees .ensures ∙ four-found k (w .i) sides totals (w .siblings) (w .inv .2) in (
+      omega (arith, w .inv .0),
+      laid-more (treesOf k) m f (w .i) 4 (w .siblings) _ made (λ j h. found-length _ _ k ∙ turn) (here .0) (w .inv .1),
+      rest-kept a e (w .siblings) _ totals _ made size (omega (arith, here)) (omega (arith, here, w .inv .1 .len)) (w .inv .2),
+    )
 
 same-length : tie.Need-same-length Inv-loop μ-loop
-same-length c = c .before .loop .inv .2 ∙ sym (c .before .before .before .before .pre .3)
+same-length c =
+    let s = c .before .before .before .before in
+    c .before .loop .inv .1 .len ∙ width-fits _ (s .pre .0) .single ∙ sym (s .pre .3)
 
 returns : tie.Need-returns Inv-loop μ-loop
-returns c =
-    let s = c .before .before .before .before in
-    let w = c .before .loop in
-    let k = s .args .k in
-    let all : w .i ≡ treesOf k = omega (arith, w .inv .1) in
-    let end = ap (λ (i : ℕ). i * (32 * k)) all ∙ width-fits k (s .pre .0) .single in
-    sym (take-all (w .i * (32 * k)) (w .siblings) (omega (arith, end, w .inv .2)))
-    ∙ w .inv .3
-    ∙ ap (λ (i : ℕ). foundIn k i (s .args .sides .now) (s .args .siblings .now)) all
+returns c = laid-all _ _ _ _ (c .before .loop .siblings) (omega arith) (c .before .loop .inv .1)
 
 pub all-trees-spec : {M : Type 1} → statement M
 all-trees-spec =

@@ -2,8 +2,9 @@ use mathlib.Core.Path.{refl, ap, _∙_, _≡_}
 use mathlib.Core.List.{List}
 use Prim.Native.Nat.{ℕ}
 use lib.ListN.{length}
+use Rattle.words.specs.Bytes.{concat}
 use Rattle.sha256.specs.Sha.{constants}
-use Rattle.sha256.specs.Four.{joined, digestIn, roundsInLanes}
+use Rattle.sha256.specs.Four.{digestIn, roundsInLanes}
 use Rattle.sha256.proofs.Lanes.{lane-digests}
 use borrow.Author.Needs.{needs}
 use Rattle.sha256.proofs.four.digest.Statement.{statement}
@@ -27,7 +28,7 @@ returns c =
     let m = c .before .before .before .before .before .before .before .args .t1 in
     let len : length m ≡ 128 = search needs in
     c .collect .ensures
-    ∙ ap (λ (t : List ℕ). joined 4 (λ l. digestIn l t)) (c .before .before .rounds .ensures ∙ ap (roundsInLanes 64) (c .before .before .before .before .before .schedule .ensures))
+    ∙ ap (λ (t : List ℕ). concat 4 (λ l. digestIn l t)) (c .before .before .rounds .ensures ∙ ap (roundsInLanes 64) (c .before .before .before .before .before .schedule .ensures))
     ∙ lane-digests m len
 
 pub digest-spec : {M : Type 1} → statement M
