@@ -4,7 +4,6 @@ use mathlib.Core.List.{List}
 use Prim.Native.Nat.{ℕ, suc, _+_, _-_, _*_}
 use native.Mathlib.Omega.{arith}
 use lib.ListN.{length}
-use borrow.Author.Needs.{needs}
 use borrow.Rule.Slice.PartMut.{putMid, same-len-mid, mid-len}
 use Rattle.words.specs.Bytes.{concat}
 use Rattle.tree.specs.Layout.{treesOf, rootOf}
@@ -15,55 +14,55 @@ use Rattle.receiver_columns.proofs.all_trees.Statement.{statement}
 use Rattle.receiver_columns.proofs.all_trees.Tie as tie
 
 mul-cut : tie.Need-mul-cut
-mul-cut c = search needs
+mul-cut c = omega arith
 
 mul-end : tie.Need-mul-end
 mul-end c =
     let s = c .before .before .before .before .before .before in
     let w = whole (s .args .k) (length (s .args .choices .now)) _ (s .pre .0 .0) (s .pre .0 .4) (s .pre .0 .5) in
-    omega (arith, w)
+    omega (arith, w .tree)
 
 mul-end-2 : tie.Need-mul-end-2
 mul-end-2 c =
     let s = c .before .before .before .before .before .before in
     let w = whole (s .args .k) (length (s .args .choices .now)) _ (s .pre .0 .0) (s .pre .0 .4) (s .pre .0 .5) in
-    omega (arith, w)
+    omega (arith, w .tree)
 
 sub-first-trees : tie.Need-sub-first-trees
-sub-first-trees c = search needs
+sub-first-trees c = omega arith
 
 part-first-trees-start : tie.Need-part-first-trees-start
-part-first-trees-start c = search needs
+part-first-trees-start c = omega arith
 
 part-first-trees-end : tie.Need-part-first-trees-end
 part-first-trees-end c =
     let s = c .before .before .before .before .before .before in
     let w = whole (s .args .k) (length (s .args .choices .now)) _ (s .pre .0 .0) (s .pre .0 .4) (s .pre .0 .5) in
-    omega (arith, w, s .pre .1 .0)
+    omega (arith, w .many, s .pre .1 .0)
 
 sub-first-trees-2 : tie.Need-sub-first-trees-2
-sub-first-trees-2 c = search needs
+sub-first-trees-2 c = omega arith
 
 part-first-trees-start-2 : tie.Need-part-first-trees-start-2
-part-first-trees-start-2 c = search needs
+part-first-trees-start-2 c = omega arith
 
 part-first-trees-end-2 : tie.Need-part-first-trees-end-2
 part-first-trees-end-2 c =
     let s = c .before .before .before .before .before .before .before .before .before .before in
     let w = whole (s .args .k) (length (s .args .choices .now)) _ (s .pre .0 .0) (s .pre .0 .4) (s .pre .0 .5) in
-    omega (arith, w, s .pre .1 .1)
+    omega (arith, w .cut, s .pre .1 .1)
 
 sub-first-trees-3 : tie.Need-sub-first-trees-3
-sub-first-trees-3 c = search needs
+sub-first-trees-3 c = omega arith
 
 part-first-trees-start-3 : tie.Need-part-first-trees-start-3
-part-first-trees-start-3 c = search needs
+part-first-trees-start-3 c = omega arith
 
 part-first-trees-end-3 : tie.Need-part-first-trees-end-3
 part-first-trees-end-3 c =
     let s = c .before .before .before .before .before .before .before .before .before .before .before in
     let w = whole (s .args .k) (length (s .args .choices .now)) _ (s .pre .0 .0) (s .pre .0 .4) (s .pre .0 .5) in
-    omega (arith, w, s .pre .1 .2)
+    omega (arith, w .cut₂, s .pre .1 .2)
 
 first-trees-requires : tie.Need-first-trees-requires
 first-trees-requires c κs =
@@ -74,9 +73,9 @@ first-trees-requires c κs =
     let pre = s .pre .0 in (
       (w .low, pre .1, pre .2, pre .3, pre .4, pre .5, pre .6),
       (
-        mid-len 0 128 (s .args .roots .now) (omega (arith, w, s .pre .1 .0)),
-        mid-len 0 end (s .args .table .now) (omega (arith, w, s .pre .1 .1)) ∙ omega arith,
-        mid-len 0 (3 * len) (s .args .correction .now) (omega (arith, w, s .pre .1 .2)) ∙ omega arith,
+        mid-len 0 128 (s .args .roots .now) (omega (arith, w .many, s .pre .1 .0)),
+        mid-len 0 end (s .args .table .now) (omega (arith, w .cut, s .pre .1 .1)) ∙ omega arith,
+        mid-len 0 (3 * len) (s .args .correction .now) (omega (arith, w .cut₂, s .pre .1 .2)) ∙ omega arith,
       ),
     )
 
@@ -96,16 +95,16 @@ sub-trees : tie.Need-sub-trees
 sub-trees c =
     let s = c .before .before .before .before .before .before .before .before .before .before .before .before .before .before .before .before .before .before .before .before .before .before .before in
     let w = whole (s .args .k) (length (s .args .choices .now)) _ (s .pre .0 .0) (s .pre .0 .4) (s .pre .0 .5) in
-    omega (arith, w, s .pre .1 .0)
+    omega (arith, w .many, s .pre .1 .0)
 
 part-trees-start : tie.Need-part-trees-start
 part-trees-start c =
     let s = c .before .before .before .before .before .before .before .before .before .before .before .before .before .before .before .before .before .before .before .before .before .before .before in
     let w = whole (s .args .k) (length (s .args .choices .now)) _ (s .pre .0 .0) (s .pre .0 .4) (s .pre .0 .5) in
-    omega (arith, w, s .pre .1 .0)
+    omega (arith, w .many, s .pre .1 .0)
 
 part-trees-end : tie.Need-part-trees-end
-part-trees-end c = search needs
+part-trees-end c = omega arith
 
 sub-trees-2 : tie.Need-sub-trees-2
 sub-trees-2 c =
@@ -113,7 +112,7 @@ sub-trees-2 c =
     let s = c .before .before .before .before .before .before .before .before .before .before .before .before .before .before .before .before .before .before .before .before .before .before .before .before .before .before in
     let w = whole (s .args .k) (length (s .args .choices .now)) _ (s .pre .0 .0) (s .pre .0 .4) (s .pre .0 .5) in
     let long = same-len-mid 0 (3 * length (s .args .choices .now) - 0) (s .args .correction .now) (did .last .1 .1 .1 .1 .1 .1 .1 .0) (did .kept .1 .1 .1 .1 .1 .1 .1 .0) in
-    omega (arith, w, long, s .pre .1)
+    omega (arith, w .cut₂, long, s .pre .1 .2)
 
 part-trees-start-2 : tie.Need-part-trees-start-2
 part-trees-start-2 c =
@@ -121,10 +120,10 @@ part-trees-start-2 c =
     let s = c .before .before .before .before .before .before .before .before .before .before .before .before .before .before .before .before .before .before .before .before .before .before .before .before .before .before in
     let w = whole (s .args .k) (length (s .args .choices .now)) _ (s .pre .0 .0) (s .pre .0 .4) (s .pre .0 .5) in
     let long = same-len-mid 0 (3 * length (s .args .choices .now) - 0) (s .args .correction .now) (did .last .1 .1 .1 .1 .1 .1 .1 .0) (did .kept .1 .1 .1 .1 .1 .1 .1 .0) in
-    omega (arith, w, long, s .pre .1)
+    omega (arith, w .cut₂, long, s .pre .1 .2)
 
 part-trees-end-2 : tie.Need-part-trees-end-2
-part-trees-end-2 c = search needs
+part-trees-end-2 c = omega arith
 
 sub-trees-3 : tie.Need-sub-trees-3
 sub-trees-3 c =
@@ -132,7 +131,7 @@ sub-trees-3 c =
     let s = c .before .before .before .before .before .before .before .before .before .before .before .before .before .before .before .before .before .before .before .before .before .before .before .before .before .before .before in
     let w = whole (s .args .k) (length (s .args .choices .now)) _ (s .pre .0 .0) (s .pre .0 .4) (s .pre .0 .5) in
     let long = same-len-mid 0 (4 * (s .args .k * length (s .args .choices .now)) - 0) (s .args .table .now) (did .last .1 .1 .1 .1 .1 .1 .0) (did .kept .1 .1 .1 .1 .1 .1 .0) in
-    omega (arith, w, long, s .pre .1)
+    omega (arith, w .cut, long, s .pre .1 .1)
 
 part-trees-start-3 : tie.Need-part-trees-start-3
 part-trees-start-3 c =
@@ -140,10 +139,10 @@ part-trees-start-3 c =
     let s = c .before .before .before .before .before .before .before .before .before .before .before .before .before .before .before .before .before .before .before .before .before .before .before .before .before .before .before in
     let w = whole (s .args .k) (length (s .args .choices .now)) _ (s .pre .0 .0) (s .pre .0 .4) (s .pre .0 .5) in
     let long = same-len-mid 0 (4 * (s .args .k * length (s .args .choices .now)) - 0) (s .args .table .now) (did .last .1 .1 .1 .1 .1 .1 .0) (did .kept .1 .1 .1 .1 .1 .1 .0) in
-    omega (arith, w, long, s .pre .1)
+    omega (arith, w .cut, long, s .pre .1 .1)
 
 part-trees-end-3 : tie.Need-part-trees-end-3
-part-trees-end-3 c = search needs
+part-trees-end-3 c = omega arith
 
 trees-requires : tie.Need-trees-requires
 trees-requires c κs =
@@ -179,7 +178,8 @@ same-length-2 c =
     c .before .before .before .before .before .before .before .before .trees .kept .1 .1 .1 .1 .1 .1 .0 ∙ c .before .before .before .before .before .before .before .before .before .before .before .before .before .before .before .before .before .before .before .before .before .before .before .before .first-trees .kept .1 .1 .1 .1 .0
 
 same-length-3 : tie.Need-same-length-3
-same-length-3 c = search needs
+same-length-3 c =
+    c .before .before .before .before .before .before .before .before .before .before .before .before .before .before .before .before .before .before .before .before .before .before .before .before .first-trees .kept .1 .1 .1 .1 .1 .0
 
 same-length-4 : tie.Need-same-length-4
 same-length-4 c =

@@ -4,7 +4,6 @@ use mathlib.Core.List.{List}
 use Prim.Native.Nat.{ℕ, _-_, _*_}
 use native.Mathlib.Omega.{arith}
 use lib.ListN.{length, drop, replicate}
-use borrow.Author.Needs.{needs}
 use Rattle.tree.specs.Layout.{rootOf}
 use Rattle.columns.specs.Columns.{uOf}
 use Rattle.receiver_columns.proofs.Starts.{u-length, us-fit, first-part, others-part}
@@ -12,25 +11,25 @@ use Rattle.receiver_columns.proofs.first_trees.Statement.{statement}
 use Rattle.receiver_columns.proofs.first_trees.Tie as tie
 
 mul-all : tie.Need-mul-all
-mul-all c = search needs
+mul-all c = omega arith
 
 sub-four-trees : tie.Need-sub-four-trees
-sub-four-trees c = search needs
+sub-four-trees c = omega arith
 
 part-us-start : tie.Need-part-us-start
-part-us-start c = search needs
+part-us-start c = omega arith
 
 part-us-end : tie.Need-part-us-end
-part-us-end c = search needs
+part-us-end c = omega arith
 
 four-trees-requires : tie.Need-four-trees-requires
-four-trees-requires c κs = search needs
+four-trees-requires c κs = omega arith
 
 sub-copy-part : tie.Need-sub-copy-part
-sub-copy-part c = search needs
+sub-copy-part c = omega arith
 
 part-copy-part-start : tie.Need-part-copy-part-start
-part-copy-part-start c = search needs
+part-copy-part-start c = omega arith
 
 part-copy-part-end : tie.Need-part-copy-part-end
 part-copy-part-end c =
@@ -42,13 +41,13 @@ part-copy-part-end c =
     omega (arith, us-fit (length (s .args .choices .now)) f (λ i. u-length _ _ _ _) ys rest (did .four-trees .ensures .0))
 
 copy-part-requires : tie.Need-copy-part-requires
-copy-part-requires c κs = search needs
+copy-part-requires c κs = omega arith
 
 sub-copy-part-2 : tie.Need-sub-copy-part-2
-sub-copy-part-2 c = search needs
+sub-copy-part-2 c = omega arith
 
 part-copy-part-start-2 : tie.Need-part-copy-part-start-2
-part-copy-part-start-2 c = search needs
+part-copy-part-start-2 c = omega arith
 
 part-copy-part-end-2 : tie.Need-part-copy-part-end-2
 part-copy-part-end-2 c =
@@ -60,22 +59,22 @@ part-copy-part-end-2 c =
     omega (arith, us-fit (length (s .args .choices .now)) f (λ i. u-length _ _ _ _) ys rest (did .four-trees .ensures .0))
 
 copy-part-requires-2 : tie.Need-copy-part-requires-2
-copy-part-requires-2 c κs = search needs
+copy-part-requires-2 c κs = omega arith
 
 same-length : tie.Need-same-length
-same-length c = search needs
+same-length c = c .before .before .before .before .before .before .before .before .before .before .before .before .before .before .before .before .before .before .before .four-trees .kept .1 .1 .1 .1 .0
 
 same-length-2 : tie.Need-same-length-2
-same-length-2 c = search needs
+same-length-2 c = c .before .before .before .before .before .before .before .before .before .before .before .before .before .before .before .before .before .before .before .four-trees .kept .1 .1 .1 .1 .1 .0
 
 same-length-3 : tie.Need-same-length-3
-same-length-3 c = search needs
+same-length-3 c = c .before .before .before .before .before .before .before .before .copy-part .kept .0
 
 same-length-4 : tie.Need-same-length-4
-same-length-4 c = search needs
+same-length-4 c = c .before .before .before .before .before .before .before .before .before .before .before .before .before .before .before .before .before .before .before .four-trees .kept .1 .1 .1 .1 .1 .1 .1 .0
 
 same-length-5 : tie.Need-same-length-5
-same-length-5 c = search needs
+same-length-5 c = c .before .before .copy-part2 .kept .0
 
 returns : tie.Need-returns
 returns c =

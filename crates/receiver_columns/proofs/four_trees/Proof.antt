@@ -4,7 +4,6 @@ use Prim.Native.Nat.{ℕ, _-_, _*_, _/_}
 use native.Mathlib.Omega.{arith}
 use lib.ListN.{length, take}
 use lib.Seq.{length-take-le}
-use borrow.Author.Needs.{needs}
 use Rattle.words.specs.Bytes.{part, concat}
 use Rattle.words.specs.Lanes.{laneBytes}
 use Rattle.words.proofs.Concat.{concat-same}
@@ -14,19 +13,19 @@ use Rattle.receiver_columns.proofs.four_trees.Statement.{statement}
 use Rattle.receiver_columns.proofs.four_trees.Tie as tie
 
 walk-roots-requires : tie.Need-walk-roots-requires
-walk-roots-requires c κs = search needs
+walk-roots-requires c κs = omega arith
 
 sub-store-lanes : tie.Need-sub-store-lanes
-sub-store-lanes c = search needs
+sub-store-lanes c = omega arith
 
 part-store-lanes-start : tie.Need-part-store-lanes-start
-part-store-lanes-start c = search needs
+part-store-lanes-start c = omega arith
 
 part-store-lanes-end : tie.Need-part-store-lanes-end
-part-store-lanes-end c = search needs
+part-store-lanes-end c = omega arith
 
 store-lanes-requires : tie.Need-store-lanes-requires
-store-lanes-requires c κs = search needs
+store-lanes-requires c κs = omega arith
 
 store-trees-requires : tie.Need-store-trees-requires
 store-trees-requires c κs =
@@ -38,16 +37,16 @@ store-trees-requires c κs =
     omega (arith, s .pre, u, v, fits)
 
 same-length : tie.Need-same-length
-same-length c = search needs
+same-length c = omega arith
 
 same-length-2 : tie.Need-same-length-2
-same-length-2 c = search needs
+same-length-2 c = omega arith
 
 same-length-3 : tie.Need-same-length-3
-same-length-3 c = search needs
+same-length-3 c = omega arith
 
 same-length-4 : tie.Need-same-length-4
-same-length-4 c = search needs
+same-length-4 c = omega arith
 
 returns : tie.Need-returns
 returns c =

@@ -3,7 +3,6 @@ use mathlib.Core.Path.{sym, ap, _∙_}
 use Prim.Native.Nat.{ℕ, suc, _-_, _*_, _≤_}
 use native.Mathlib.Omega.{arith}
 use lib.ListN.{length}
-use borrow.Author.Needs.{needs}
 use Rattle.tree.specs.Layout.{treesOf, rootOf}
 use Rattle.columns.specs.Columns.{uOf, correctionOf}
 use Rattle.words.proofs.Lists.{cut-length}
@@ -13,7 +12,7 @@ use Rattle.receiver_columns.proofs.start.Statement.{statement}
 use Rattle.receiver_columns.proofs.start.Tie as tie
 
 room-requires : tie.Need-room-requires
-room-requires c κs = search needs
+room-requires c κs = omega arith
 
 mul-size : tie.Need-mul-size
 mul-size c =
@@ -27,19 +26,19 @@ mul-size c =
     omega (arith, size)
 
 sub-all-trees : tie.Need-sub-all-trees
-sub-all-trees c = search needs
+sub-all-trees c = omega arith
 
 part-u-start : tie.Need-part-u-start
-part-u-start c = search needs
+part-u-start c = omega arith
 
 part-u-end : tie.Need-part-u-end
-part-u-end c = search needs
+part-u-end c = omega arith
 
 sub-all-trees-2 : tie.Need-sub-all-trees-2
-sub-all-trees-2 c = search needs
+sub-all-trees-2 c = omega arith
 
 part-v-start : tie.Need-part-v-start
-part-v-start c = search needs
+part-v-start c = omega arith
 
 part-v-end : tie.Need-part-v-end
 part-v-end c =
@@ -102,13 +101,13 @@ add-choices-requires c κs =
     )
 
 same-length : tie.Need-same-length
-same-length c = search needs
+same-length c = omega arith
 
 same-length-2 : tie.Need-same-length-2
-same-length-2 c = search needs
+same-length-2 c = omega arith
 
 same-length-3 : tie.Need-same-length-3
-same-length-3 c = search needs
+same-length-3 c = omega arith
 
 returns : tie.Need-returns
 unfolding correctionOf

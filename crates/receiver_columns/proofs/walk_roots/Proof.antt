@@ -3,22 +3,21 @@ use mathlib.Core.Path.{_≡_, ap, _∙_}
 use Prim.Native.Nat.{ℕ, _*_}
 use native.Mathlib.Omega.{arith}
 use lib.ListN.{length, replicate, length-replicate}
-use borrow.Author.Needs.{needs}
 use Rattle.receiver_columns.proofs.Starts.{u-walked, column-walked}
 use Rattle.receiver_columns.proofs.walk_roots.Statement.{statement}
 use Rattle.receiver_columns.proofs.walk_roots.Tie as tie
 
 slice-aggregate-load-lanes : tie.Need-slice-aggregate-load-lanes
-slice-aggregate-load-lanes c = search needs
+slice-aggregate-load-lanes c = omega arith
 
 load-lanes-requires : tie.Need-load-lanes-requires
-load-lanes-requires c κs = search needs
+load-lanes-requires c κs = omega arith
 
 clear-requires : tie.Need-clear-requires
-clear-requires c κs = search needs
+clear-requires c κs = omega arith
 
 clear-requires-2 : tie.Need-clear-requires-2
-clear-requires-2 c κs = search needs
+clear-requires-2 c κs = omega arith
 
 walk-requires : tie.Need-walk-requires
 walk-requires c κs =
@@ -31,10 +30,10 @@ walk-requires c κs =
     omega (arith, long, long₂, fits, s .pre)
 
 same-length : tie.Need-same-length
-same-length c = search needs
+same-length c = omega arith
 
 same-length-2 : tie.Need-same-length-2
-same-length-2 c = search needs
+same-length-2 c = omega arith
 
 returns : tie.Need-returns
 returns c =

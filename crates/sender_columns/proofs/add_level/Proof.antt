@@ -6,7 +6,6 @@ use Prim.Native.Nat.{ℕ, _+_, _-_, _*_, _%_, _≤_}
 use native.Mathlib.Omega.{arith}
 use lib.ListN.{length, getD}
 use borrow.Rule.Slice.PartMut.{mid-len, putMid}
-use borrow.Author.Needs.{needs}
 use Rattle.words.specs.Bytes.{tabulate, part}
 use Rattle.words.specs.Xor.{xorEach, xorPart}
 use Rattle.tree.specs.Lanes.{uWord, columnWord}
@@ -31,10 +30,10 @@ fits s =
     (inside, omega (arith, inside), omega (arith, s .pre .0 .0))
 
 sub-r : tie.Need-sub-r
-sub-r c = search needs
+sub-r c = omega arith
 
 sub-r-2 : tie.Need-sub-r-2
-sub-r-2 c = search needs
+sub-r-2 c = omega arith
 
 mul-at : tie.Need-mul-at
 mul-at c = omega (arith, fits (c .before .before .before .before))
@@ -46,16 +45,16 @@ mul-add-where : tie.Need-mul-add-where
 mul-add-where c = omega (arith, fits (c .before .before .before .before))
 
 sub-add-where : tie.Need-sub-add-where
-sub-add-where c = search needs
+sub-add-where c = omega arith
 
 part-add-where-start : tie.Need-part-add-where-start
-part-add-where-start c = search needs
+part-add-where-start c = omega arith
 
 part-add-where-end : tie.Need-part-add-where-end
 part-add-where-end c = omega (arith, fits (c .before .before .before .before))
 
 of-four-requires : tie.Need-of-four-requires
-of-four-requires c κs = search needs
+of-four-requires c κs = omega arith
 
 add-where-requires : tie.Need-add-where-requires
 add-where-requires c κs =
@@ -90,10 +89,10 @@ added c =
     (is, ap length is ∙ xorPart-length v at n _ (fits s .0))
 
 mul-nodes-at : tie.Need-mul-nodes-at
-mul-nodes-at c = search needs
+mul-nodes-at c = omega arith
 
 nodes-at-requires : tie.Need-nodes-at-requires
-nodes-at-requires c κs = search needs
+nodes-at-requires c κs = omega arith
 
 walk-requires : tie.Need-walk-requires
 walk-requires c κs =
@@ -136,10 +135,10 @@ add-column-requires c κs =
     rw (w .1, w .3) (fits s .0)
 
 same-length : tie.Need-same-length
-same-length c = search needs
+same-length c = omega arith
 
 same-length-2 : tie.Need-same-length-2
-same-length-2 c = search needs
+same-length-2 c = omega arith
 
 returns : tie.Need-returns
 returns c =

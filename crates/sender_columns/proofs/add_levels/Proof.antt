@@ -6,7 +6,6 @@ use denote.Ref.{now}
 use Prim.Native.Nat.{ℕ, _+_, _-_, _*_, _%_, _≤_, _<_}
 use native.Mathlib.Omega.{arith}
 use lib.ListN.{length, getD}
-use borrow.Author.Needs.{needs}
 use Rattle.words.specs.Bytes.{tabulate, part}
 use Rattle.words.specs.Xor.{xorEach, xorPart}
 use Rattle.tree.specs.Lanes.{columnWord}
@@ -47,10 +46,10 @@ after k batch level n sides s u v u′ =
     ((k - 1 - level) * n) n (λ i. getD u′ i 0)
 
 add-level : tie.Need-add-level Inv-loop μ-loop
-add-level c = search needs
+add-level c = omega arith
 
 loop-less : tie.Need-loop-less Inv-loop μ-loop
-loop-less c = search needs
+loop-less c = omega arith
 
 loop-again : tie.Need-loop-again Inv-loop μ-loop
 loop-again c =

@@ -54,82 +54,82 @@ room c =
     (omega (arith, here, w .inv .2 .len, s .pre .0), here)
 
 mul-a : tie.Need-mul-a Inv-loop μ-loop
-mul-a c = search needs
+mul-a c = omega (arith, room c, c .before .before .before .before .before .before .before .before .good)
 
 slice-read-a : tie.Need-slice-read-a Inv-loop μ-loop
-slice-read-a c = search needs
+slice-read-a c = omega (arith, room (c .before))
 
 mul-a-2 : tie.Need-mul-a-2 Inv-loop μ-loop
-mul-a-2 c = search needs
+mul-a-2 c = omega (arith, room (c .before), c .before .before .before .before .before .before .before .before .before .good)
 
 shared-slice-read-a : tie.Need-shared-slice-read-a Inv-loop μ-loop
-shared-slice-read-a c = search needs
+shared-slice-read-a c = omega (arith, room (c .before .before))
 
 add-b : tie.Need-add-b Inv-loop μ-loop
-add-b c = search needs
+add-b c = omega (arith, room (c .before .before), c .before .before .before .before .before .before .before .before .before .before .good)
 
 mul-b : tie.Need-mul-b Inv-loop μ-loop
-mul-b c = search needs
+mul-b c = omega (arith, room (c .before .before), c .before .before .before .before .before .before .before .before .before .before .good)
 
 slice-read-b : tie.Need-slice-read-b Inv-loop μ-loop
-slice-read-b c = search needs
+slice-read-b c = omega (arith, room (c .before .before .before))
 
 add-b-2 : tie.Need-add-b-2 Inv-loop μ-loop
-add-b-2 c = search needs
+add-b-2 c = omega (arith, room (c .before .before .before), c .before .before .before .before .before .before .before .before .before .before .before .good)
 
 mul-b-2 : tie.Need-mul-b-2 Inv-loop μ-loop
-mul-b-2 c = search needs
+mul-b-2 c = omega (arith, room (c .before .before .before), c .before .before .before .before .before .before .before .before .before .before .before .good)
 
 shared-slice-read-b : tie.Need-shared-slice-read-b Inv-loop μ-loop
-shared-slice-read-b c = search needs
+shared-slice-read-b c = omega (arith, room (c .before .before .before .before))
 
 add-c : tie.Need-add-c Inv-loop μ-loop
-add-c c = search needs
+add-c c = omega (arith, room (c .before .before .before .before), c .before .before .before .before .before .before .before .before .before .before .before .before .good)
 
 mul-c : tie.Need-mul-c Inv-loop μ-loop
-mul-c c = search needs
+mul-c c = omega (arith, room (c .before .before .before .before), c .before .before .before .before .before .before .before .before .before .before .before .before .good)
 
 slice-read-c : tie.Need-slice-read-c Inv-loop μ-loop
-slice-read-c c = search needs
+slice-read-c c = omega (arith, room (c .before .before .before .before .before))
 
 add-c-2 : tie.Need-add-c-2 Inv-loop μ-loop
-add-c-2 c = search needs
+add-c-2 c = omega (arith, room (c .before .before .before .before .before), c .before .before .before .before .before .before .before .before .before .before .before .before .before .good)
 
 mul-c-2 : tie.Need-mul-c-2 Inv-loop μ-loop
-mul-c-2 c = search needs
+mul-c-2 c = omega (arith, room (c .before .before .before .before .before), c .before .before .before .before .before .before .before .before .before .before .before .before .before .good)
 
 shared-slice-read-c : tie.Need-shared-slice-read-c Inv-loop μ-loop
-shared-slice-read-c c = search needs
+shared-slice-read-c c = omega (arith, room (c .before .before .before .before .before .before))
 
 add-d : tie.Need-add-d Inv-loop μ-loop
-add-d c = search needs
+add-d c = omega (arith, room (c .before .before .before .before .before .before), c .before .before .before .before .before .before .before .before .before .before .before .before .before .before .good)
 
 mul-d : tie.Need-mul-d Inv-loop μ-loop
-mul-d c = search needs
+mul-d c = omega (arith, room (c .before .before .before .before .before .before), c .before .before .before .before .before .before .before .before .before .before .before .before .before .before .good)
 
 slice-read-d : tie.Need-slice-read-d Inv-loop μ-loop
-slice-read-d c = search needs
+slice-read-d c = omega (arith, room (c .before .before .before .before .before .before .before))
 
 add-d-2 : tie.Need-add-d-2 Inv-loop μ-loop
-add-d-2 c = search needs
+add-d-2 c = omega (arith, room (c .before .before .before .before .before .before .before), c .before .before .before .before .before .before .before .before .before .before .before .before .before .before .before .good)
 
 mul-d-2 : tie.Need-mul-d-2 Inv-loop μ-loop
-mul-d-2 c = search needs
+mul-d-2 c = omega (arith, room (c .before .before .before .before .before .before .before), c .before .before .before .before .before .before .before .before .before .before .before .before .before .before .before .good)
 
 shared-slice-read-d : tie.Need-shared-slice-read-d Inv-loop μ-loop
-shared-slice-read-d c = search needs
+shared-slice-read-d c = omega (arith, room (c .before .before .before .before .before .before .before .before))
 
 mul-v : tie.Need-mul-v Inv-loop μ-loop
-mul-v c = search needs
+mul-v c = omega (arith, room (c .before .before .before .before .before .before .before .before), c .before .before .before .before .before .before .before .before .before .before .before .before .before .before .before .before .good)
 
 slice-write-v : tie.Need-slice-write-v Inv-loop μ-loop
-slice-write-v c = search needs
+slice-write-v c = omega (arith, room (c .before .before .before .before .before .before .before .before))
 
 add-v : tie.Need-add-v Inv-loop μ-loop
-add-v c = search needs
+add-v c = omega (arith, room (c .before .before .before .before .before .before .before .before), c .before .before .before .before .before .before .before .before .before .before .before .before .before .before .before .before .good)
 
 mul-v-2 : tie.Need-mul-v-2 Inv-loop μ-loop
-mul-v-2 c = search needs
+mul-v-2 c = omega (arith, room (c .before .before .before .before .before .before .before .before), c .before .before .before .before .before .before .before .before .before .before .before .before .before .before .before .before .good)
 
 slice-write-v-2 : tie.Need-slice-write-v-2 Inv-loop μ-loop
 slice-write-v-2 c =
@@ -138,10 +138,10 @@ slice-write-v-2 c =
     in-set (w .v) (w .i) _ (w .i + 1) here
 
 add-v-2 : tie.Need-add-v-2 Inv-loop μ-loop
-add-v-2 c = search needs
+add-v-2 c = omega (arith, room (c .before .before .before .before .before .before .before .before), c .before .before .before .before .before .before .before .before .before .before .before .before .before .before .before .before .good)
 
 mul-v-3 : tie.Need-mul-v-3 Inv-loop μ-loop
-mul-v-3 c = search needs
+mul-v-3 c = omega (arith, room (c .before .before .before .before .before .before .before .before), c .before .before .before .before .before .before .before .before .before .before .before .before .before .before .before .before .good)
 
 slice-write-v-3 : tie.Need-slice-write-v-3 Inv-loop μ-loop
 slice-write-v-3 c =
@@ -150,10 +150,10 @@ slice-write-v-3 c =
     in-two (w .v) (w .i) _ (w .i + 1) _ (w .i + 2) here
 
 add-v-3 : tie.Need-add-v-3 Inv-loop μ-loop
-add-v-3 c = search needs
+add-v-3 c = omega (arith, room (c .before .before .before .before .before .before .before .before), c .before .before .before .before .before .before .before .before .before .before .before .before .before .before .before .before .good)
 
 mul-v-4 : tie.Need-mul-v-4 Inv-loop μ-loop
-mul-v-4 c = search needs
+mul-v-4 c = omega (arith, room (c .before .before .before .before .before .before .before .before), c .before .before .before .before .before .before .before .before .before .before .before .before .before .before .before .before .good)
 
 slice-write-v-4 : tie.Need-slice-write-v-4 Inv-loop μ-loop
 slice-write-v-4 c =
@@ -162,10 +162,10 @@ slice-write-v-4 c =
     in-three (w .v) (w .i) _ (w .i + 1) _ (w .i + 2) _ (w .i + 3) here
 
 add-i : tie.Need-add-i Inv-loop μ-loop
-add-i c = search needs
+add-i c = omega (arith, room (c .before .before .before .before .before .before .before .before), c .before .before .before .before .before .before .before .before .before .before .before .before .before .before .before .before .good)
 
 loop-less : tie.Need-loop-less Inv-loop μ-loop
-loop-less c = search needs
+loop-less c = omega (arith, room (c .before .before .before .before .before .before .before .before))
 
 loop-again : tie.Need-loop-again Inv-loop μ-loop
 loop-again c =

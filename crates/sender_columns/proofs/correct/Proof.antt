@@ -2,10 +2,10 @@
 use mathlib.Core.Path.{sym, ap, _∙_}
 use Prim.Native.Nat.{ℕ, _-_, _*_, _≤_}
 use native.Mathlib.Omega.{arith}
-use borrow.Author.Needs.{needs}
 use Rattle.tree.proofs.Widths.{width-fits}
 use Rattle.words.proofs.Lists.{cut-length}
 use Rattle.columns.proofs.Tables.{columns-fit}
+use borrow.Author.Needs.{needs}
 use Rattle.sender_columns.proofs.correct.Statement.{statement}
 use Rattle.sender_columns.proofs.correct.Tie as tie
 
@@ -13,7 +13,7 @@ mul-size : tie.Need-mul-size
 mul-size c = omega (arith, width-fits _ (c .before .before .before .before .pre .0) .low)
 
 room-requires : tie.Need-room-requires
-room-requires c κs = search needs
+room-requires c κs = omega arith
 
 -- what it works in is long enough
 fits : (c : tie.After-room) → (c .room .result ≤ 128) × (c .before .before .before .before .before .args .k ≤ 8) × (c .before .before .before .before .before .args .k * c .room .result ≤ 1024)
@@ -27,28 +27,28 @@ mul-wide : tie.Need-mul-wide
 mul-wide c = omega (arith, fits c)
 
 sub-all-trees : tie.Need-sub-all-trees
-sub-all-trees c = search needs
+sub-all-trees c = omega arith
 
 part-s-start : tie.Need-part-s-start
-part-s-start c = search needs
+part-s-start c = omega arith
 
 part-s-end : tie.Need-part-s-end
 part-s-end c = omega (arith, fits c)
 
 sub-all-trees-2 : tie.Need-sub-all-trees-2
-sub-all-trees-2 c = search needs
+sub-all-trees-2 c = omega arith
 
 part-u-start : tie.Need-part-u-start
-part-u-start c = search needs
+part-u-start c = omega arith
 
 part-u-end : tie.Need-part-u-end
-part-u-end c = search needs
+part-u-end c = omega arith
 
 sub-all-trees-3 : tie.Need-sub-all-trees-3
-sub-all-trees-3 c = search needs
+sub-all-trees-3 c = omega arith
 
 part-v-start : tie.Need-part-v-start
-part-v-start c = search needs
+part-v-start c = omega arith
 
 part-v-end : tie.Need-part-v-end
 part-v-end c = omega (arith, fits (c .before .before))
@@ -73,7 +73,7 @@ all-trees-requires c κs =
     )
 
 same-length : tie.Need-same-length
-same-length c = search needs
+same-length c = omega arith
 
 returns : tie.Need-returns
 returns c = search needs

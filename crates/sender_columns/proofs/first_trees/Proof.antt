@@ -5,7 +5,6 @@ use denote.Ref.{now}
 use Prim.Native.Nat.{ℕ, _-_, _*_, _≤_}
 use native.Mathlib.Omega.{arith}
 use lib.ListN.{length, getD, replicate}
-use borrow.Author.Needs.{needs}
 use Rattle.words.specs.Bytes.{part}
 use Rattle.words.proofs.Lists.{zeros-at}
 use Rattle.words.proofs.Concat.{concat-same, part-length}
@@ -14,22 +13,22 @@ use Rattle.sender_columns.proofs.first_trees.Statement.{statement}
 use Rattle.sender_columns.proofs.first_trees.Tie as tie
 
 slice-aggregate-copy-part : tie.Need-slice-aggregate-copy-part
-slice-aggregate-copy-part c = search needs
+slice-aggregate-copy-part c = omega arith
 
 copy-part-requires : tie.Need-copy-part-requires
-copy-part-requires c κs = search needs
+copy-part-requires c κs = omega arith
 
 mul-end : tie.Need-mul-end
-mul-end c = search needs
+mul-end c = omega arith
 
 sub-four-trees : tie.Need-sub-four-trees
-sub-four-trees c = search needs
+sub-four-trees c = omega arith
 
 part-four-trees-start : tie.Need-part-four-trees-start
-part-four-trees-start c = search needs
+part-four-trees-start c = omega arith
 
 part-four-trees-end : tie.Need-part-four-trees-end
-part-four-trees-end c = search needs
+part-four-trees-end c = omega arith
 
 four-trees-requires : tie.Need-four-trees-requires
 four-trees-requires c κs =
@@ -40,16 +39,16 @@ four-trees-requires c κs =
     )
 
 same-length : tie.Need-same-length
-same-length c = search needs
+same-length c = omega arith
 
 same-length-2 : tie.Need-same-length-2
-same-length-2 c = search needs
+same-length-2 c = omega arith
 
 same-length-3 : tie.Need-same-length-3
-same-length-3 c = search needs
+same-length-3 c = omega arith
 
 same-length-4 : tie.Need-same-length-4
-same-length-4 c = search needs
+same-length-4 c = omega arith
 
 returns : tie.Need-returns
 returns c d h =

@@ -7,7 +7,6 @@ use Prim.Native.Nat.{ℕ, _-_, _*_, _/_, _%_, _≤_, _<_}
 use native.Mathlib.Omega.{arith}
 use lib.ListN.{length, getD}
 use borrow.Rule.Slice.PartMut.{mid-len, midOf, postOf, same-len-mid}
-use borrow.Author.Needs.{needs}
 use Rattle.words.specs.Bytes.{part}
 use Rattle.words.specs.Lanes.{laneBytes}
 use Rattle.words.proofs.Lists.{zeros-at}
@@ -18,25 +17,25 @@ use Rattle.sender_columns.proofs.four_trees.Statement.{statement}
 use Rattle.sender_columns.proofs.four_trees.Tie as tie
 
 clear-requires : tie.Need-clear-requires
-clear-requires c κs = search needs
+clear-requires c κs = omega arith
 
 clear-requires-2 : tie.Need-clear-requires-2
-clear-requires-2 c κs = search needs
+clear-requires-2 c κs = omega arith
 
 sub-load-lanes : tie.Need-sub-load-lanes
-sub-load-lanes c = search needs
+sub-load-lanes c = omega arith
 
 part-load-lanes-start : tie.Need-part-load-lanes-start
-part-load-lanes-start c = search needs
+part-load-lanes-start c = omega arith
 
 part-load-lanes-end : tie.Need-part-load-lanes-end
-part-load-lanes-end c = search needs
+part-load-lanes-end c = omega arith
 
 load-lanes-requires : tie.Need-load-lanes-requires
-load-lanes-requires c κs = search needs
+load-lanes-requires c κs = omega arith
 
 load-lanes-requires-2 : tie.Need-load-lanes-requires-2
-load-lanes-requires-2 c κs = search needs
+load-lanes-requires-2 c κs = omega arith
 
 -- u, with the corrections in its first words
 loaded : (c : tie.After-load-lanes)
@@ -84,16 +83,16 @@ store-trees-requires c κs =
     )
 
 same-length : tie.Need-same-length
-same-length c = search needs
+same-length c = omega arith
 
 same-length-2 : tie.Need-same-length-2
-same-length-2 c = search needs
+same-length-2 c = omega arith
 
 same-length-3 : tie.Need-same-length-3
-same-length-3 c = search needs
+same-length-3 c = omega arith
 
 same-length-4 : tie.Need-same-length-4
-same-length-4 c = search needs
+same-length-4 c = omega arith
 
 returns : tie.Need-returns
 returns c d h =

@@ -6,7 +6,6 @@ use Prim.Native.Nat.{ℕ, _+_, _-_, _*_, _≤_, _<_}
 use native.Mathlib.Nat.{add-mul}
 use native.Mathlib.Omega.{arith}
 use lib.ListN.{length}
-use borrow.Author.Needs.{needs}
 use Rattle.words.proofs.Concat.{concat-same, part-length}
 use Rattle.tree.specs.Layout.{treePart}
 use Rattle.columns.specs.Columns.{senderColumn}
@@ -15,19 +14,19 @@ use Rattle.sender_columns.proofs.trees_from.Statement.{statement}
 use Rattle.sender_columns.proofs.trees_from.Tie as tie
 
 add-end : tie.Need-add-end
-add-end c = search needs
+add-end c = omega arith
 
 mul-end : tie.Need-mul-end
-mul-end c = search needs
+mul-end c = omega arith
 
 sub-first-trees : tie.Need-sub-first-trees
-sub-first-trees c = search needs
+sub-first-trees c = omega arith
 
 part-first-trees-start : tie.Need-part-first-trees-start
-part-first-trees-start c = search needs
+part-first-trees-start c = omega arith
 
 part-first-trees-end : tie.Need-part-first-trees-end
-part-first-trees-end c = search needs
+part-first-trees-end c = omega arith
 
 first-trees-requires : tie.Need-first-trees-requires
 first-trees-requires c κs =
@@ -51,7 +50,7 @@ later c =
     (pos, ap (λ (n : ℕ). n * len) end ∙ add-mul (s .args .i - 1) 4 len)
 
 sub-start : tie.Need-sub-start
-sub-start c = search needs
+sub-start c = omega arith
 
 mul-start : tie.Need-mul-start
 mul-start c = omega (arith, later c, c .before .before .before .before .before .before .before .before .pre .0 .5)
@@ -63,7 +62,7 @@ part-four-trees-start : tie.Need-part-four-trees-start
 part-four-trees-start c = omega (arith, later c, c .before .before .before .before .before .before .before .before .pre .0 .5)
 
 part-four-trees-end : tie.Need-part-four-trees-end
-part-four-trees-end c = search needs
+part-four-trees-end c = omega arith
 
 four-trees-requires : tie.Need-four-trees-requires
 four-trees-requires c κs =
@@ -76,16 +75,16 @@ four-trees-requires c κs =
     )
 
 same-length : tie.Need-same-length
-same-length c = search needs
+same-length c = omega arith
 
 same-length-2 : tie.Need-same-length-2
-same-length-2 c = search needs
+same-length-2 c = omega arith
 
 same-length-3 : tie.Need-same-length-3
-same-length-3 c = search needs
+same-length-3 c = omega arith
 
 same-length-4 : tie.Need-same-length-4
-same-length-4 c = search needs
+same-length-4 c = omega arith
 
 returns : tie.Need-returns
 returns c d h =
@@ -99,16 +98,16 @@ returns c d h =
     (first-part (s .args .len) (now (s .args .correction)) (s .args .i) j (c .before .before .before .before .before .before .before .before .before .before .before .before .before .before .if1 .taken) hj)))
 
 same-length-5 : tie.Need-same-length-5
-same-length-5 c = search needs
+same-length-5 c = omega arith
 
 same-length-6 : tie.Need-same-length-6
-same-length-6 c = search needs
+same-length-6 c = omega arith
 
 same-length-7 : tie.Need-same-length-7
-same-length-7 c = search needs
+same-length-7 c = omega arith
 
 same-length-8 : tie.Need-same-length-8
-same-length-8 c = search needs
+same-length-8 c = omega arith
 
 returns-2 : tie.Need-returns-2
 returns-2 c d h =
