@@ -6,8 +6,8 @@ use native.Mathlib.Omega.{arith}
 use borrow.Author.Tests.{eqb-true, leb-true}
 use Rattle.answer.specs.declared.Answer.{Answer}
 use Rattle.answer.specs.declared.Answer.the-variants.{Done, Width, Stage, Batch, Blocks, Length}
-use Rattle.answer.specs.Answer.{unless, both, widthAllowed, whenDone}
-use Rattle.answer.proofs.Laws.{both-of, done-of, width-refuses, length-refuses, width-cases}
+use Rattle.answer.specs.Answer.{both}
+use Rattle.answer.proofs.Laws.{both-of, done-of, width-refuses, length-refuses}
 use Rattle.tree.specs.Layout.{columns, treesOf, columnLength}
 use Rattle.session.specs.Steps.{inOrder, blocksAllowed, startLengths, correctLengths, answerLengths}
 
@@ -37,9 +37,22 @@ pub blocks-next : (p l : Bool) → p ≡ false → inOrder true true true p l �
 unfolding inOrder
 blocks-next p l e = ap (λ (x : Bool). inOrder true true true x l) e
 
-pub after-blocks : (p l : Bool) → p ≡ true → inOrder true true true p l ≡ unless l Length Done
-unfolding inOrder
+pub after-blocks : (p l : Bool) → p ≡ true → inOrder true true true p l ≡ inOrder true true true true l
 after-blocks p l e = ap (λ (x : Bool). inOrder true true true x l) e
+
+pub length-last : (l : Bool) → l ≡ false → inOrder true true true true l ≡ Length
+unfolding inOrder
+length-last l e = ap (inOrder true true true true) e
+
+pub all-done : (l : Bool) → l ≡ true → inOrder true true true true l ≡ Done
+unfolding inOrder
+all-done l e = ap (inOrder true true true true) e
+
+-- the lengths count only where the width is allowed
+pub lengths-count : (w s b p l l′ : Bool) → (w ≡ true → l ≡ l′) → inOrder w s b p l ≡ inOrder w s b p l′
+unfolding inOrder
+lengths-count false s b p l l′ e = refl
+lengths-count true s b p l l′ e = ap (inOrder true s b p) (e refl)
 
 -- ---- a step that is done
 
@@ -62,32 +75,10 @@ all-hold w s b p l e =
     let blocks = done-of _ Blocks _ blocks-refuses (batch .1) in
     (width .0, stage .0, batch .0, blocks .0, done-of _ Length _ length-refuses (blocks .1) .0)
 
--- where the conditions before the lengths hold, the lengths decide
-pub then-lengths : (w s b p l : Bool) → inOrder w s b p true ≡ Done → inOrder w s b p l ≡ unless l Length Done
-then-lengths w s b p l e =
-    let all = all-hold w s b p true e in
-    after-width w s b p l (all .0) ∙ after-stage s b p l (all .1) ∙ after-batch b p l (all .2) ∙ after-blocks p l (all .3)
-
--- and where one doesn't, they don't count
-pub before-lengths : (w s b p l : Bool) → (inOrder w s b p true ≡ Done → ⊥) → inOrder w s b p l ≡ inOrder w s b p true
-unfolding inOrder
-before-lengths false s b p l n = refl
-before-lengths true false b p l n = refl
-before-lengths true true false p l n = refl
-before-lengths true true true false l n = refl
-before-lengths true true true true l n = absurd (n refl)
-
--- an answer that leaves what it finds isn't Done
-pub leaves : (x : Answer) → _≡_ {A = ℕ} 0 (whenDone x 1 0) → x ≡ Done → ⊥
-leaves x kept e = let z : _≡_ {A = ℕ} 0 1 = kept ∙ ap (λ (y : Answer). whenDone y 1 0) e in omega arith
-
 -- ---- what the conditions say
 
 pub blocks-fit : (blocks : ℕ) → blocksAllowed blocks ≡ true → (1 ≤ blocks) × (blocks ≤ 15)
 blocks-fit blocks e = let h = both-of _ _ e in (leb-true 1 blocks (h .0), leb-true blocks 15 (h .1))
-
-pub some-trees : (k : ℕ) → widthAllowed k ≡ true → 16 ≤ treesOf k
-some-trees = width-cases (λ (k : ℕ). 16 ≤ treesOf k) (omega arith) (omega arith) (omega arith) (omega arith)
 
 four-of : (a b c d : Bool) → both a (both b (both c d)) ≡ true → (a ≡ true) × (b ≡ true) × (c ≡ true) × (d ≡ true)
 four-of a b c d e =

@@ -3,15 +3,16 @@ use crate::Record;
 use answer::Answer;
 ghost use mathlib.Core.Path.{_≡_};
 ghost use mathlib.Core.Bool.{true};
+ghost use Prim.Native.Nat.{_≤_, _<_};
 ghost use lib.Dec.{eqb, ltb};
 ghost use lib.ListN.{getD};
 ghost use Rattle.answer.specs.Answer.{both, widthAllowed};
-ghost use Rattle.tree.specs.Layout.{columnLength};
+ghost use Rattle.tree.specs.Layout.{treesOf, columnLength};
 ghost use Rattle.session.specs.Steps.{blocksAllowed, inOrder, openAnswer, endAnswer, startLengths, correctLengths, answerLengths};
 
-// The first condition that doesn't hold, before the lengths: they can be told only of a width and blocks that are allowed.
-fn in_order(width: bool, stage: bool, batch: bool, blocks: bool) -> Answer
-    ensures { λ r. ⌜ r ≡ inOrder width stage batch blocks true ⌝ }
+// The first condition that doesn't hold.
+fn in_order(width: bool, stage: bool, batch: bool, blocks: bool, lengths: bool) -> Answer
+    ensures { λ r. ⌜ r ≡ inOrder width stage batch blocks lengths ⌝ }
 {
     if !width {
         return Answer::Width;
@@ -24,6 +25,9 @@ fn in_order(width: bool, stage: bool, batch: bool, blocks: bool) -> Answer
     }
     if !blocks {
         return Answer::Blocks;
+    }
+    if !lengths {
+        return Answer::Length;
     }
     Answer::Done
 }
@@ -48,27 +52,29 @@ fn batch_follows(last: u32, batch: u32) -> bool
     last < batch
 }
 
-// The answer of a step that opens a batch, before the lengths.
-fn open_answer(r: Record, batch: u32, blocks: u32) -> Answer
-    ensures { λ x. ⌜ x ≡ openAnswer r batch blocks true ⌝ }
+// The answer of a step that opens a batch.
+fn open_answer(r: Record, batch: u32, blocks: u32, lengths: bool) -> Answer
+    ensures { λ x. ⌜ x ≡ openAnswer r batch blocks lengths ⌝ }
 {
     in_order(
         answer::width_allowed(r.width),
         r.stage == 0,
         batch_follows(r.last, batch),
         blocks_allowed(blocks),
+        lengths,
     )
 }
 
-// The answer of a step that ends a batch, before the lengths.
-fn end_answer(r: Record) -> Answer
-    ensures { λ x. ⌜ x ≡ endAnswer r true ⌝ }
+// The answer of a step that ends a batch.
+fn end_answer(r: Record, lengths: bool) -> Answer
+    ensures { λ x. ⌜ x ≡ endAnswer r lengths ⌝ }
 {
     in_order(
         answer::width_allowed(r.width),
         r.stage == 1,
         r.last > 0,
         blocks_allowed(r.blocks),
+        lengths,
     )
 }
 
@@ -88,7 +94,18 @@ fn lengths_are(found: [usize; 4], named: [usize; 4]) -> bool
     found[3] == named[3]
 }
 
-// The answer of the receiver's start. A length can be told only of a width and blocks that are allowed.
+// The trees of a width that is allowed. For any other width the lengths don't count, and 1 will do.
+fn trees(width: u32) -> usize
+    ensures { λ r. ⌜ (widthAllowed width ≡ true → r ≡ treesOf width) × (0 < r) × (r ≤ 128) ⌝ }
+{
+    if answer::width_allowed(width) {
+        128 / (width as usize)
+    } else {
+        1
+    }
+}
+
+// The answer of the receiver's start.
 pub fn start_answer(
     r: Record,
     batch: u32,
@@ -100,18 +117,13 @@ pub fn start_answer(
 ) -> Answer
     ensures { λ x. ⌜ x ≡ openAnswer r batch blocks (startLengths (r .width) (columnLength blocks) roots choices table correction) ⌝ }
 {
-    let first = open_answer(r, batch, blocks);
-    if let Answer::Done = first {
-        let n = 128 / (r.width as usize);
-        let len = 8 * (blocks as usize + 1);
-        if !lengths_are(
-            [roots, choices, table, correction],
-            [32 * n, len, 128 * len, (n - 1) * len],
-        ) {
-            return Answer::Length;
-        }
-    }
-    first
+    let n = trees(r.width);
+    let len = 8 * (blocks as usize + 1);
+    let lengths = lengths_are(
+        [roots, choices, table, correction],
+        [32 * n, len, 128 * len, (n - 1) * len],
+    );
+    open_answer(r, batch, blocks, lengths)
 }
 
 // The answer of the sender's correction.
@@ -126,34 +138,24 @@ pub fn correct_answer(
 ) -> Answer
     ensures { λ x. ⌜ x ≡ openAnswer r batch blocks (correctLengths (r .width) (columnLength blocks) siblings delta correction table) ⌝ }
 {
-    let first = open_answer(r, batch, blocks);
-    if let Answer::Done = first {
-        let n = 128 / (r.width as usize);
-        let len = 8 * (blocks as usize + 1);
-        if !lengths_are(
-            [siblings, delta, correction, table],
-            [4096, 16, (n - 1) * len, 128 * len],
-        ) {
-            return Answer::Length;
-        }
-    }
-    first
+    let n = trees(r.width);
+    let len = 8 * (blocks as usize + 1);
+    let lengths = lengths_are(
+        [siblings, delta, correction, table],
+        [4096, 16, (n - 1) * len, 128 * len],
+    );
+    open_answer(r, batch, blocks, lengths)
 }
 
 // The answer of the receiver's answer.
 pub fn answer_answer(r: Record, choices: usize, table: usize, message: usize, pads: usize) -> Answer
     ensures { λ x. ⌜ x ≡ endAnswer r (answerLengths (r .blocks) choices table message pads) ⌝ }
 {
-    let first = end_answer(r);
-    if let Answer::Done = first {
-        let blocks = r.blocks as usize;
-        let len = 8 * (blocks + 1);
-        if !lengths_are(
-            [choices, table, message, pads],
-            [len, 128 * len, 1032, 2048 * blocks],
-        ) {
-            return Answer::Length;
-        }
-    }
-    first
+    let blocks = r.blocks as usize;
+    let len = 8 * (blocks + 1);
+    let lengths = lengths_are(
+        [choices, table, message, pads],
+        [len, 128 * len, 1032, 2048 * blocks],
+    );
+    end_answer(r, lengths)
 }

@@ -1,5 +1,4 @@
--- `session::answers::end_answer` meets its contract: the four conditions in order. Assumes nothing.
-use mathlib.Core.Path.{ap, _∙_}
+-- `session::answers::end_answer` meets its contract: the conditions in order. Assumes nothing.
 use borrow.Author.Needs.{needs}
 use Rattle.session.proofs.answers.end_answer.Statement.{statement}
 use Rattle.session.proofs.answers.end_answer.Tie as tie
@@ -18,9 +17,4 @@ returns c = cc
 
 pub end-answer-spec : {M : Type 1} → statement M
 end-answer-spec =
-    tie.close
-    (tie.spec
-    width-allowed-requires
-    blocks-allowed-requires
-    in-order-requires
-    returns)
+    tie.close (tie.spec width-allowed-requires blocks-allowed-requires in-order-requires returns)

@@ -1,5 +1,4 @@
--- `session::answers::open_answer` meets its contract: the four conditions in order. Assumes nothing.
-use mathlib.Core.Path.{ap, _∙_}
+-- `session::answers::open_answer` meets its contract: the conditions in order. Assumes nothing.
 use borrow.Author.Needs.{needs}
 use Rattle.session.proofs.answers.open_answer.Statement.{statement}
 use Rattle.session.proofs.answers.open_answer.Tie as tie
