@@ -229,10 +229,11 @@ static void time_steps(void) {
         for (int n = 0; n < 8; n++) {
             width = 1u << n / 2;
             blocks = n % 2 ? 1 : 15;
+            unsigned turns = width == 8 ? 2 : 20; /* about a millisecond a pass */
             double plain = 1e18, proved = 1e18;
             for (int pass = 0; pass < PASSES; pass++) {
-                plain = least(plain, steps[s].plain, 1, 1000);
-                proved = least(proved, steps[s].proved, 1, 1000);
+                plain = least(plain, steps[s].plain, turns, 1000);
+                proved = least(proved, steps[s].proved, turns, 1000);
             }
             printf("| %s | %u | %u | %.1f | %.1f | %.2f | %.2f |\n", steps[s].name, (unsigned)width, (unsigned)blocks, plain, proved,
                    proved / plain, steps[s].goal);
