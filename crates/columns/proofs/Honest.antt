@@ -110,7 +110,7 @@ beside-part k delta roots =
     ∙ mul-comm k 32)
 
 -- delta's number of a tree, and its bits
-delta-lt : (k : ℕ) (delta : List ℕ) (i : ℕ) → deltaOf k delta i < 2 ^ k
+pub delta-lt : (k : ℕ) (delta : List ℕ) (i : ℕ) → deltaOf k delta i < 2 ^ k
 delta-lt k delta i = ofBits-lt k (λ b. bitAt delta (i * k + b)) (λ b. bit-lt _ _)
 
 delta-bit : (k : ℕ) (delta : List ℕ) (c : ℕ) → c % k < k → bitOf (deltaOf k delta (c / k)) (c % k) ≡ bitAt delta c

@@ -12,10 +12,8 @@ use Rattle.words.specs.Lanes.{laneBytes}
 use Rattle.words.proofs.Lists.{tabulate-same, put-before, put-in}
 use Rattle.words.proofs.Concat.{part-at, part-part, place-fits, place-part}
 use Rattle.words.proofs.LaneBytes.{laneBytes-length, laneBytes-at, lane-is}
-use Rattle.words.specs.Bits.{bitOf, bitAt}
+use Rattle.words.specs.Bits.{bitOf}
 use Rattle.words.specs.Xor.{_⊕_}
-use Rattle.words.proofs.Xor.{bit-lt}
-use Rattle.words.proofs.Sums.{ofBits-lt}
 use Rattle.answer.specs.Answer.{widthAllowed}
 use Rattle.tree.specs.Tree.{streamByte}
 use Rattle.tree.specs.Path.{sideOf}
@@ -24,6 +22,7 @@ use Rattle.tree.specs.Sides.{sidesOf}
 use Rattle.tree.proofs.Widths.{width-fits}
 use Rattle.tree.proofs.Sides.{sides-at}
 use Rattle.columns.specs.Columns.{besideAt, senderColumn, treeCorrection}
+use Rattle.columns.proofs.Honest.{delta-lt}
 use Rattle.sender_columns.specs.Lanes.{SidesAre}
 
 -- the lanes of a list's first words
@@ -89,9 +88,6 @@ next-part len correction i j pos h =
     ∙ ap (treeCorrection len correction) one
 
 -- ---- the sides of four trees
-
-pub delta-lt : (k : ℕ) (delta : List ℕ) (i : ℕ) → deltaOf k delta i < 2 ^ k
-delta-lt k delta i = ofBits-lt k (λ b. bitAt delta (i * k + b)) (λ b. bit-lt _ _)
 
 pub four-sides : (k : ℕ) (delta : List ℕ) (i : ℕ) → widthAllowed k ≡ true → i + 4 ≤ treesOf k
     → SidesAre k (part (i * k) ((i + 4) * k - i * k) (sidesOf k delta)) (λ j. deltaOf k delta (i + j))

@@ -1,7 +1,8 @@
 -- Words added under a mask for each lane. Assumes nothing.
 use mathlib.Core.Path.{_≡_, sym, ap, ap₂, _∙_}
 use mathlib.Core.List.{List, [], _∷_}
-use Prim.Native.Nat.{ℕ, _-_, _*_, _%_, _^_, _≤_, _<_}
+use Prim.Native.Nat.{ℕ, zero, suc, _-_, _*_, _%_, _^_, _≤_, _<_}
+use native.Mathlib.Nat.{one-mul}
 use native.Mathlib.Omega.{arith}
 use lib.Bits.{bitXor, bitAnd}
 use lib.ListN.{length, getD}
@@ -36,3 +37,19 @@ masked-all l m u sides m0 m1 m2 m3 n low words e0 e1 e2 e3 all a =
 
     mask : (j : ℕ) → j < 4 → getD masks j 0 ≡ getD sides j 0 * (2 ^ 32 - 1)
     mask = below (λ (j : ℕ). getD masks j 0 ≡ getD sides j 0 * (2 ^ 32 - 1)) 4 ((((tt, e0), e1), e2), e3)
+
+-- ---- every lane
+
+abbrev pub everyLane : List ℕ
+everyLane = 1 ∷ 1 ∷ 1 ∷ 1 ∷ []
+
+pub every-side : Sides everyLane
+every-side zero = omega arith
+every-side (suc zero) = omega arith
+every-side (suc (suc zero)) = omega arith
+every-side (suc (suc (suc zero))) = omega arith
+every-side (suc (suc (suc (suc c)))) = omega arith
+
+pub every-lane : (i x : ℕ) → getD everyLane (i % 4) 0 * x ≡ x
+every-lane i x =
+    below (λ (j : ℕ). getD everyLane j 0 * x ≡ x) 4 ((((tt, one-mul x), one-mul x), one-mul x), one-mul x) (i % 4) (omega arith)

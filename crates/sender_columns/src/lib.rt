@@ -57,7 +57,7 @@ fn add_level(
     let end = at + u.len();
     add_where(&mut v[at..end], u, tree::side::of_four(k, level, sides));
     tree::walk(&tree::nodes_at(s, 32 * level), r, batch, u, v);
-    tree::add_column(v, r, u);
+    add_where(&mut v[at..end], u, [1; 4]);
 }
 
 // All levels of four trees of k levels, from their siblings in s. u has the corrections, and v is zero.

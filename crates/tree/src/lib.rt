@@ -53,7 +53,7 @@ fn add_stream(leaves: &[u32; 32], batch: u32, u: &mut [u32])
 }
 
 // Adds u to column r of v.
-pub fn add_column(v: &mut [u32], r: usize, u: &[u32])
+fn add_column(v: &mut [u32], r: usize, u: &[u32])
     requires { ⌜ r * length (now u) + length (now u) ≤ length (now v) ⌝ }
     ensures { λ _. ⌜ now (v .exit) ≡ xorPart (now (v .entry)) (r * length (now (u .entry))) (length (now (u .entry))) (λ i. getD (now (u .entry)) i 0) ⌝ }
 {

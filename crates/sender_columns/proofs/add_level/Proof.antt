@@ -1,5 +1,5 @@
 -- `sender_columns::add_level` meets its contract: the three additions, one after the other. Assumes nothing.
-use mathlib.Core.Path.{_≡_, refl, ap, ap₂, _∙_}
+use mathlib.Core.Path.{_≡_, refl, ap, ap₂, _∙_, sym}
 use mathlib.Core.List.{List}
 use denote.Ref.{now}
 use Prim.Native.Nat.{ℕ, _+_, _-_, _*_, _%_, _≤_}
@@ -10,7 +10,8 @@ use Rattle.words.specs.Bytes.{tabulate, part}
 use Rattle.words.specs.Xor.{xorEach, xorPart}
 use Rattle.tree.specs.Lanes.{uWord, columnWord}
 use Rattle.words.proofs.Concat.{place-fits}
-use Rattle.words.proofs.Lists.{part-added, tabulate-lt, xorEach-length, xorPart-length}
+use Rattle.words.proofs.Lists.{part-added, tabulate-lt, xorEach-length, xorEach-cong, xorPart-length}
+use Rattle.sender_columns.proofs.Masked.{every-side, every-lane}
 use Rattle.sender_columns.proofs.add_level.Statement.{statement}
 use Rattle.sender_columns.proofs.add_level.Tie as tie
 
@@ -127,12 +128,35 @@ walked c =
       ap length columns ∙ xorEach-length _ _ ∙ xorPart-length (now (s .args .v)) (r * n) n _ (fits s .0),
     )
 
-add-column-requires : tie.Need-add-column-requires
-add-column-requires c κs =
-    let w = walked (c .before .before .before .before .before .before) in
+-- column r is inside it, and u is as long as it was
+inside : (c : tie.After-walk)
+    → let s = c .before .before .before .before .before .before .before .before .before .before .before .before .before .before .before in
+    let n = length (now (s .args .u)) in
+    ((s .args .k - 1 - s .args .level) * n + n ≤ length (c .walk .last .1 .1 .1 .1 .0)) × (length (c .walk .last .1 .1 .1 .0) ≡ n)
+inside c =
+    let w = walked c in
+    (omega (arith, w .3, fits (c .before .before .before .before .before .before .before .before .before .before .before .before .before .before .before) .0), w .1)
+
+mul-add-where-2 : tie.Need-mul-add-where-2
+mul-add-where-2 c = omega (arith, fits (c .before .before .before .before .before .before .before .before .before .before .before .before .before .before .before .before .before .before .before))
+
+sub-add-where-2 : tie.Need-sub-add-where-2
+sub-add-where-2 c = omega arith
+
+part-add-where-start-2 : tie.Need-part-add-where-start-2
+part-add-where-start-2 c = omega arith
+
+part-add-where-end-2 : tie.Need-part-add-where-end-2
+part-add-where-end-2 c = omega (arith, inside (c .before .before .before .before))
+
+add-where-requires-2 : tie.Need-add-where-requires-2
+add-where-requires-2 c κs =
     let s = c .before .before .before .before .before .before .before .before .before .before .before .before .before .before .before .before .before .before .before .before .before in
-    let r : ℕ = s .args .k - 1 - s .args .level in
-    rw (w .1, w .3) (fits s .0)
+    let n = length (now (s .args .u)) in
+    let at : ℕ = (s .args .k - 1 - s .args .level) * n in
+    let here = inside (c .before .before .before .before .before .before) in
+    let size : at + n - at ≡ n = omega arith in
+    (mid-len at (at + n) (c .before .before .before .before .before .before .walk .last .1 .1 .1 .1 .0) (here .0) ∙ size ∙ sym (here .1), omega (arith, here .1, s .pre .1 .0), every-side)
 
 same-length : tie.Need-same-length
 same-length c = omega arith
@@ -144,8 +168,15 @@ returns : tie.Need-returns
 returns c =
     let s = c .before .before .before .before .before .before .before .before .before .before .before .before .before .before .before .before .before .before .before .before .before .before .before .before in
     let w = walked (c .before .before .before .before .before .before .before .before .before) in
-    let r : ℕ = s .args .k - 1 - s .args .level in
-    (w .0, c .before .before .add-column .ensures ∙ ap₂ (λ (n : ℕ) (z : List ℕ). xorPart z (r * n) n (λ i. getD (c .before .before .before .before .before .before .before .before .before .walk .last .1 .1 .1 .0) i 0)) (w .1) (w .2))
+    let n = length (now (s .args .u)) in
+    let at : ℕ = (s .args .k - 1 - s .args .level) * n in
+    let u = c .before .before .before .before .before .before .before .before .before .walk .last .1 .1 .1 .0 in
+    let v = c .before .before .before .before .before .before .before .before .before .walk .last .1 .1 .1 .1 .0 in (
+      w .0,
+      part-added at (at + n) n v _ (λ i. getD u i 0) refl
+          (c .before .before .add-where2 .ensures ∙ xorEach-cong (part at (at + n - at) v) _ (λ i. getD u i 0) (λ i lt. every-lane i (getD u i 0)))
+          ∙ ap (λ (z : List ℕ). xorPart z at n (λ i. getD u i 0)) (w .2),
+    )
 
 pub add-level-spec : {M : Type 1} → statement M
 add-level-spec =
@@ -164,7 +195,11 @@ add-level-spec =
     mul-nodes-at
     nodes-at-requires
     walk-requires
-    add-column-requires
+    mul-add-where-2
+    sub-add-where-2
+    part-add-where-start-2
+    part-add-where-end-2
+    add-where-requires-2
     same-length
     same-length-2
     returns)
