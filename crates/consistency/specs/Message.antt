@@ -1,10 +1,31 @@
--- The check message. Paper 01, 'Folding and pads'. Assumes nothing.
+-- The check message, and the check. Paper 01, 'Folding and pads'. len is its L, the bytes of a column. Assumes nothing.
+use mathlib.Core.Bool.{Bool}
 use mathlib.Core.List.{List, _++_}
-use Prim.Native.Nat.{ℕ}
-use Rattle.words.specs.Bytes.{bytes, concat}
+use Prim.Native.Nat.{ℕ, _+_, _*_}
+use lib.Dec.{eqb}
+use Rattle.words.specs.Bytes.{bytes, word64, concat}
+use Rattle.words.specs.Bits.{bitAt}
 use Rattle.gf64.specs.Field.{foldBytes}
+use Rattle.gf64.specs.Check.{columnSide, choiceSide}
 use Rattle.tree.specs.Layout.{columns, columnOf}
+use Rattle.answer.specs.Answer.{every}
 
--- the check message has the fold of u_0 (choices), then of all 128 columns of V, 8 bytes each. len is L, the bytes of a column
+-- the check message has the fold of u_0 (choices), then of all 128 columns of V, 8 bytes each
 unfoldable pub checkMessage : ℕ → ℕ → List ℕ → List ℕ → List ℕ
 checkMessage len g choices table = bytes 8 (foldBytes g choices) ++ concat columns (λ c. bytes 8 (foldBytes g (columnOf len table c)))
+
+-- the sent choice fold of any message, and sent fold c
+abbrev pub sentChoice : List ℕ → ℕ
+sentChoice message = word64 message 0
+
+abbrev pub sentColumn : List ℕ → ℕ → ℕ
+sentColumn message c = word64 message (8 + 8 * c)
+
+-- whether the two sides of the check are equal in column c
+abbrev pub sidesEqual : ℕ → ℕ → List ℕ → List ℕ → List ℕ → ℕ → Bool
+sidesEqual len g table delta message c =
+    eqb (columnSide g (sentColumn message c) (columnOf len table c)) (choiceSide (bitAt delta c) (sentChoice message))
+
+-- the sender accepts exactly when they are equal in every column
+unfoldable pub accepts : ℕ → ℕ → List ℕ → List ℕ → List ℕ → Bool
+accepts len g table delta message = every columns (sidesEqual len g table delta message)

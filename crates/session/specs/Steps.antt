@@ -7,11 +7,11 @@ use lib.Dec.{eqb, leb, ltb}
 use lib.ListN.{length}
 use Rattle.tree.specs.Layout.{columns, treesOf, columnLength}
 use Rattle.columns.specs.Columns.{choicesOf, receiverTable, correctionOf, senderTable}
-use Rattle.consistency.specs.Message.{checkMessage}
-use Rattle.pads.specs.Pads.{receiverPads}
+use Rattle.consistency.specs.Message.{checkMessage, accepts}
+use Rattle.pads.specs.Pads.{receiverPads, senderPads}
 use Rattle.answer.specs.declared.Answer.{Answer}
-use Rattle.answer.specs.declared.Answer.the-variants.{Done, Width, Stage, Batch, Blocks, Length}
-use Rattle.answer.specs.Answer.{unless, both, widthAllowed, whenDone}
+use Rattle.answer.specs.declared.Answer.the-variants.{Done, Width, Stage, Batch, Blocks, Length, Check}
+use Rattle.answer.specs.Answer.{unless, both, widthAllowed, whenDone, whenFailed}
 use Rattle.session.specs.declared.Record.{Record}
 
 -- 'Words and layouts': stage 0 ready, 1 open, 2 closed
@@ -20,6 +20,9 @@ stageReady = 0
 
 abbrev pub stageOpen : ℕ
 stageOpen = 1
+
+abbrev pub stageClosed : ℕ
+stageClosed = 2
 
 -- a batch has 1 to 15 blocks
 abbrev pub blocksAllowed : ℕ → Bool
@@ -35,6 +38,17 @@ inOrder width stage batch blocks lengths =
     (unless blocks Blocks
     (unless lengths Length
     Done))))
+
+-- ---- opening a session
+
+-- a ready record of the named width, last 0, blocks 0
+abbrev pub newRecord : ℕ → Record
+newRecord width = record { width = width; last = 0; blocks = 0; stage = stageReady }
+
+-- all that opening a session promises, whatever the record held. 1; the record is then as before
+pub record OpenSession (r : Record) (width : ℕ) (answer : Answer) (r′ : Record) : Type 0 where
+  pub answered : answer ≡ unless (widthAllowed width) Width Done
+  pub recorded : r′ ≡ whenDone answer (newRecord width) r
 
 -- ---- the two that open a batch
 
@@ -95,3 +109,23 @@ pub record ReceiverAnswer (r : Record) (key : ℕ) (choices table message pads :
   pub recorded : r′ ≡ whenDone answer (withoutBatch r) r
   pub told : message′ ≡ whenDone answer (checkMessage (columnLength (r .blocks)) key choices table) message
   pub padded : pads′ ≡ whenDone answer (receiverPads (r .blocks) (r .last) table) pads
+
+-- keeper verdict: key, W, D, check message; pads out 4,096 × P
+unfoldable pub verifyLengths : ℕ → ℕ → ℕ → ℕ → ℕ → Bool
+verifyLengths blocks table delta message pads =
+    both (eqb table (columns * columnLength blocks)) (both (eqb delta 16) (both (eqb message 1032) (eqb pads (4096 * blocks))))
+
+-- 1, 2, 3, 4, 5 as in the answer, then 6
+abbrev pub verifyAnswer : Record → Bool → Bool → Answer
+verifyAnswer r lengths accepted = whenDone (endAnswer r lengths) (unless accepted Check Done) (endAnswer r lengths)
+
+-- 6 sets stage closed
+abbrev pub closed : Record → Record
+closed r = record { width = r .width; last = r .last; blocks = r .blocks; stage = stageClosed }
+
+-- all that the sender's verify promises
+pub record SenderVerify (r : Record) (key : ℕ) (table delta message pads : List ℕ)
+    (answer : Answer) (r′ : Record) (pads′ : List ℕ) : Type 0 where
+  pub answered : answer ≡ verifyAnswer r (verifyLengths (r .blocks) (length table) (length delta) (length message) (length pads)) (accepts (columnLength (r .blocks)) key table delta message)
+  pub recorded : r′ ≡ whenDone answer (withoutBatch r) (whenFailed answer (closed r) r)
+  pub padded : pads′ ≡ whenDone answer (senderPads (r .blocks) (r .last) table delta) pads

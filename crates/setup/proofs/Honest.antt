@@ -18,7 +18,7 @@ use Rattle.tree.specs.Path.{siblingNode, sideOf}
 use Rattle.tree.proofs.Path.{sibling, sibling-length}
 use Rattle.tree.specs.Layout.{treesOf, rootOf, deltaOf, treePart}
 use Rattle.setup.specs.Setup.{treeMessage, messageOf}
-use Rattle.setup.specs.Setup.{unmasked, nextNode, nodesFound, treeSiblings, siblingsOf, senderPads, besidePaths}
+use Rattle.setup.specs.Setup.{unmasked, nextNode, nodesFound, treeSiblings, siblingsOf, senderBasePads, besidePaths}
 
 total-length : (root : List ℕ) (l s : ℕ) → length (totalOf root l s) ≡ 32
 unfolding totalOf
@@ -170,22 +170,22 @@ module _ (k : ℕ) (delta pads : List ℕ) (long : treesOf k * (64 * k) ≤ leng
       (pad-length k (deltaOf k delta i) (treePart k 64 i pads) (fits k pads long i h))
       ∙ mul-comm k 32
 
-  pads-part : (i : ℕ) → i < treesOf k → treePart k 32 i (senderPads k delta pads) ≡ concat k (pad k (deltaOf k delta i) (treePart k 64 i pads))
-  unfolding senderPads pad treePads
+  pads-part : (i : ℕ) → i < treesOf k → treePart k 32 i (senderBasePads k delta pads) ≡ concat k (pad k (deltaOf k delta i) (treePart k 64 i pads))
+  unfolding senderBasePads pad treePads
   pads-part = concat-part treePads (32 * k) (treesOf k) treePads-length
 
-  pub senderPads-length : length (senderPads k delta pads) ≡ treesOf k * (32 * k)
-  unfolding senderPads pad treePads
-  senderPads-length = concat-length treePads (32 * k) (treesOf k) treePads-length
+  pub senderBasePads-length : length (senderBasePads k delta pads) ≡ treesOf k * (32 * k)
+  unfolding senderBasePads pad treePads
+  senderBasePads-length = concat-length treePads (32 * k) (treesOf k) treePads-length
 
 -- the sender, given the receiver's message and, for each base transfer, the receiver's pad numbered 1 minus the path bit, gets the
 -- nodes beside its paths in the receiver's trees
 pub honest-setup : (k : ℕ) (delta roots pads : List ℕ) → treesOf k * (64 * k) ≤ length pads
-    → siblingsOf k delta (senderPads k delta pads) (messageOf k roots pads) ≡ besidePaths k delta roots
+    → siblingsOf k delta (senderBasePads k delta pads) (messageOf k roots pads) ≡ besidePaths k delta roots
 unfolding siblingsOf besidePaths pad
 honest-setup k delta roots pads long =
     concat-same (treesOf k)
-    (λ i. treeSiblings k (side i) (treePart k 64 i (messageOf k roots pads)) (treePart k 32 i (senderPads k delta pads)))
+    (λ i. treeSiblings k (side i) (treePart k 64 i (messageOf k roots pads)) (treePart k 32 i (senderBasePads k delta pads)))
     (λ i. concat k (siblingNode k (rootOf roots i) (deltaOf k delta i)))
     (λ i h.
     ap₂ (treeSiblings k (side i)) (message-part k roots pads i h) (pads-part k delta pads long i h)

@@ -54,8 +54,8 @@ siblingsOf k delta pads message =
 -- ---- what an honest setup has
 
 -- of each base transfer's two pads, pad 0 before pad 1, the one that the sender has
-unfoldable pub senderPads : ℕ → List ℕ → List ℕ → List ℕ
-senderPads k delta pads =
+unfoldable pub senderBasePads : ℕ → List ℕ → List ℕ → List ℕ
+senderBasePads k delta pads =
     concat (treesOf k) (λ i. concat k (λ l. part (64 * l + 32 * sideOf k (deltaOf k delta i) l) 32 (treePart k 64 i pads)))
 
 -- the nodes beside the paths of the receiver's trees, in base-transfer order

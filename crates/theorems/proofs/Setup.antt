@@ -9,15 +9,15 @@ use Rattle.answer.specs.declared.Answer.{Answer}
 use Rattle.answer.specs.declared.Answer.the-variants.{Done}
 use Rattle.answer.specs.Answer.{widthAllowed, whenDone}
 use Rattle.tree.specs.Layout.{treesOf}
-use Rattle.setup.specs.Setup.{messageOf, siblingsOf, senderPads, besidePaths, ReceiverSetup, SenderSetup}
+use Rattle.setup.specs.Setup.{messageOf, siblingsOf, senderBasePads, besidePaths, ReceiverSetup, SenderSetup}
 use Rattle.setup.proofs.Answers.{receiver-fits, receiver-done, sender-done}
-use Rattle.setup.proofs.Honest.{messageOf-length, senderPads-length, honest-setup, pads-enough}
+use Rattle.setup.proofs.Honest.{messageOf-length, senderBasePads-length, honest-setup, pads-enough}
 use Rattle.tree.proofs.Widths.{width-fits}
 
 module _ (width : ℕ) (roots pads message message′ delta siblings siblings′ : List ℕ) (answer answer′ : Answer)
     (received : ReceiverSetup width roots pads message answer message′)
     -- the sender is given the receiver's message, and of each two base pads the one numbered 1 minus the path bit
-    (sent : SenderSetup width delta (senderPads width delta pads) message′ siblings answer′ siblings′) where
+    (sent : SenderSetup width delta (senderBasePads width delta pads) message′ siblings answer′ siblings′) where
   message-is : answer ≡ Done → message′ ≡ messageOf width roots pads
   message-is done = received .written ∙ ap (λ (a : Answer). whenDone a (messageOf width roots pads) message) done
 
@@ -26,8 +26,8 @@ module _ (width : ℕ) (roots pads message message′ delta siblings siblings′
   siblings-are done done′ =
       let fits = receiver-fits _ _ _ _ (sym (received .answered) ∙ done) in
       sent .written
-      ∙ ap (λ (a : Answer). whenDone a (siblingsOf width delta (senderPads width delta pads) message′) siblings) done′
-      ∙ ap (siblingsOf width delta (senderPads width delta pads)) (message-is done)
+      ∙ ap (λ (a : Answer). whenDone a (siblingsOf width delta (senderBasePads width delta pads) message′) siblings) done′
+      ∙ ap (siblingsOf width delta (senderBasePads width delta pads)) (message-is done)
       ∙ honest-setup width delta roots pads (omega (arith, pads-enough width, fits .2))
 
   -- and both are done at every width that is allowed, on ranges of the lengths named
@@ -42,7 +42,7 @@ module _ (width : ℕ) (roots pads message message′ delta siblings siblings′
             ∙ sender-done _ _ _ _ _ (
               allowed,
               d,
-              senderPads-length width delta pads long ∙ fits .single,
+              senderBasePads-length width delta pads long ∙ fits .single,
               ap length (message-is done) ∙ messageOf-length width roots pads ∙ fits .pairs,
               s,
             ),
