@@ -113,7 +113,7 @@ beside-part k delta roots =
 pub delta-lt : (k : ℕ) (delta : List ℕ) (i : ℕ) → deltaOf k delta i < 2 ^ k
 delta-lt k delta i = ofBits-lt k (λ b. bitAt delta (i * k + b)) (λ b. bit-lt _ _)
 
-delta-bit : (k : ℕ) (delta : List ℕ) (c : ℕ) → c % k < k → bitOf (deltaOf k delta (c / k)) (c % k) ≡ bitAt delta c
+pub delta-bit : (k : ℕ) (delta : List ℕ) (c : ℕ) → c % k < k → bitOf (deltaOf k delta (c / k)) (c % k) ≡ bitAt delta c
 delta-bit k delta c h =
     ofBits-bit k (λ b. bitAt delta (c / k * k + b)) (λ b. bit-lt _ _) (c % k) h ∙ ap (bitAt delta) (div-add-mod' c k)
 

@@ -9,7 +9,7 @@ use Rattle.answer.specs.declared.Answer.the-variants.{Done, Width, Stage, Batch
 use Rattle.answer.specs.Answer.{both}
 use Rattle.answer.proofs.Laws.{both-of, done-of, width-refuses, length-refuses}
 use Rattle.tree.specs.Layout.{columns, treesOf, columnLength}
-use Rattle.session.specs.Steps.{inOrder, blocksAllowed, startLengths, correctLengths, answerLengths}
+use Rattle.session.specs.Steps.{inOrder, blocksAllowed, startLengths, correctLengths, answerLengths, verifyLengths}
 
 pub width-first : (w s b p l : Bool) → w ≡ false → inOrder w s b p l ≡ Width
 unfolding inOrder
@@ -105,5 +105,12 @@ pub answer-fits : (blocks choices table message pads : ℕ) → answerLengths bl
     → (choices ≡ columnLength blocks) × (table ≡ columns * columnLength blocks) × (message ≡ 1032) × (pads ≡ 2048 * blocks)
 unfolding answerLengths
 answer-fits blocks choices table message pads e =
+    let h = four-of _ _ _ _ e in
+    (eqb-true _ _ (h .0), eqb-true _ _ (h .1), eqb-true _ _ (h .2), eqb-true _ _ (h .3))
+
+pub verify-fits : (blocks table delta message pads : ℕ) → verifyLengths blocks table delta message pads ≡ true
+    → (table ≡ columns * columnLength blocks) × (delta ≡ 16) × (message ≡ 1032) × (pads ≡ 4096 * blocks)
+unfolding verifyLengths
+verify-fits blocks table delta message pads e =
     let h = four-of _ _ _ _ e in
     (eqb-true _ _ (h .0), eqb-true _ _ (h .1), eqb-true _ _ (h .2), eqb-true _ _ (h .3))

@@ -1,1 +1,3 @@
 pub mod Cases
+pub mod Errors
+pub mod Demand1

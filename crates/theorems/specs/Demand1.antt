@@ -1,0 +1,56 @@
+-- Demand 1: every call of a step ends in done or in a refusal that paper 01 lists for that step, and a refusal alters nothing, except
+-- that a failed check closes the session. Assumes nothing.
+use mathlib.Core.Path.{_≡_}
+use mathlib.Core.Logic.{_⊎_, _≢_}
+use mathlib.Core.List.{List, [], _∷_}
+use Prim.Native.Nat.{ℕ}
+use Rattle.answer.specs.declared.Answer.{Answer}
+use Rattle.answer.specs.declared.Answer.the-variants.{Done}
+use Rattle.answer.specs.Answer.{number, whenFailed}
+use Rattle.setup.specs.Setup.{ReceiverSetup, SenderSetup}
+use Rattle.session.specs.declared.Record.{Record}
+use Rattle.session.specs.Steps.{OpenSession, ReceiverStart, SenderCorrect, ReceiverAnswer, SenderVerify, closed}
+
+-- what a step is lent and may alter: the record of a session, which the setups have not, and the byte ranges out. (A range in is lent to
+-- be read: its type lets no step write there.)
+pub data Lent : Type 0 where
+  ranges : List (List ℕ) → Lent
+  session : Record → List (List ℕ) → Lent
+
+-- a call of one of the seven steps: the numbers of the refusals that paper 01 lists for it, its answer, and what it was lent before it
+-- and after it
+pub data Call : List ℕ → Answer → Lent → Lent → Type 0 where
+  receiver-setup : {width : ℕ} {roots pads message message′ : List ℕ} {answer : Answer} → ReceiverSetup width roots pads message answer message′
+      → Call (1 ∷ 5 ∷ []) answer (ranges (message ∷ [])) (ranges (message′ ∷ []))
+  sender-setup : {width : ℕ} {delta pads message siblings siblings′ : List ℕ} {answer : Answer} → SenderSetup width delta pads message siblings answer siblings′
+      → Call (1 ∷ 5 ∷ []) answer (ranges (siblings ∷ [])) (ranges (siblings′ ∷ []))
+  open-session : {r r′ : Record} {width : ℕ} {answer : Answer} → OpenSession r width answer r′
+      → Call (1 ∷ []) answer (session r []) (session r′ [])
+  receiver-start : {r r′ : Record} {batch blocks : ℕ} {roots choices table correction choices′ table′ correction′ : List ℕ} {answer : Answer}
+      → ReceiverStart r roots batch blocks choices table correction answer r′ choices′ table′ correction′
+      → Call (1 ∷ 2 ∷ 3 ∷ 4 ∷ 5 ∷ []) answer (session r (choices ∷ table ∷ correction ∷ [])) (session r′ (choices′ ∷ table′ ∷ correction′ ∷ []))
+  sender-correct : {r r′ : Record} {batch blocks : ℕ} {siblings delta correction table table′ : List ℕ} {answer : Answer}
+      → SenderCorrect r siblings delta batch blocks correction table answer r′ table′
+      → Call (1 ∷ 2 ∷ 3 ∷ 4 ∷ 5 ∷ []) answer (session r (table ∷ [])) (session r′ (table′ ∷ []))
+  receiver-answer : {r r′ : Record} {key : ℕ} {choices table message pads message′ pads′ : List ℕ} {answer : Answer}
+      → ReceiverAnswer r key choices table message pads answer r′ message′ pads′
+      → Call (1 ∷ 2 ∷ 3 ∷ 4 ∷ 5 ∷ []) answer (session r (message ∷ pads ∷ [])) (session r′ (message′ ∷ pads′ ∷ []))
+  sender-verify : {r r′ : Record} {key : ℕ} {table delta message pads pads′ : List ℕ} {answer : Answer}
+      → SenderVerify r key table delta message pads answer r′ pads′
+      → Call (1 ∷ 2 ∷ 3 ∷ 4 ∷ 5 ∷ 6 ∷ []) answer (session r (pads ∷ [])) (session r′ (pads′ ∷ []))
+
+-- the answer's number is one of these
+abbrev pub Among : List ℕ → Answer → Type 0
+Among [] answer = ⊥
+Among (n ∷ ns) answer = (number answer ≡ n) ⊎ Among ns answer
+
+-- what a failed check leaves: the record closed, and all ranges as they were
+abbrev pub shut : Lent → Lent
+shut (ranges s) = ranges s
+shut (session r s) = session (closed r) s
+
+pub record Demand1 (refusals : List ℕ) (answer : Answer) (before after : Lent) : Type 0 where
+  -- done, or a refusal that is listed
+  pub ends : Among (0 ∷ refusals) answer
+  -- a refusal alters nothing, except that a failed check closes the session
+  pub kept : answer ≢ Done → after ≡ whenFailed answer (shut before) before
