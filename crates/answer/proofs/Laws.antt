@@ -2,16 +2,19 @@
 use mathlib.Core.Path.{_≡_, refl, sym, ap, _∙_, subst}
 use mathlib.Core.Bool.{Bool, true, false}
 use mathlib.Core.List.{List, [], _∷_}
-use Prim.Native.Nat.{ℕ}
+use Prim.Native.Nat.{ℕ, zero, suc, _+_, _<_}
 use lib.Dec.{eqb}
 use borrow.Author.Tests.{eqb-true}
+use native.Mathlib.Nat.{not-suc-le-zero}
+use native.Mathlib.Numerals.{add-one}
 use native.Mathlib.Omega.{arith}
+use borrow.Author.Count.{below-more}
 use types.Run.{OneOf, miss}
 use denote.Enum.Declared.{tagOf}
 use Rattle.answer.proofs.Answer as A
 use Rattle.answer.specs.declared.Answer.{Answer}
 use Rattle.answer.specs.declared.Answer.the-variants.{Done, Width, Stage, Batch, Blocks, Length, Check}
-use Rattle.answer.specs.Answer.{unless, both, either, widthAllowed, whenDone}
+use Rattle.answer.specs.Answer.{unless, both, every, either, widthAllowed, whenDone}
 
 -- a condition that holds, and one that doesn't
 pub passed : (r n : Answer) (b : Bool) → b ≡ true → unless b r n ≡ n
@@ -45,6 +48,23 @@ apart e = let z : _≡_ {A = ℕ} 0 1 = cc in absurd (omega arith)
 pub both-of : (a b : Bool) → both a b ≡ true → (a ≡ true) × (b ≡ true)
 both-of true b e = (refl, e)
 both-of false b e = apart e
+
+-- a condition for each number below n: one number more, what all of them tell of each, and back
+pub every-more : (n : ℕ) (p : ℕ → Bool) → every (n + 1) p ≡ both (every n p) (p n)
+unfolding every
+every-more n p = ap (λ (m : ℕ). every m p) (add-one n)
+
+pub every-of : (n : ℕ) (p : ℕ → Bool) → every n p ≡ true → (i : ℕ) → i < n → p i ≡ true
+unfolding every
+every-of zero p e i h = absurd (not-suc-le-zero h)
+every-of (suc n) p e i h =
+    let here = both-of (every n p) (p n) e in
+    below-more (λ (j : ℕ). p j ≡ true) n (every-of n p (here .0)) (here .1) i (omega arith)
+
+pub every-is : (n : ℕ) (p : ℕ → Bool) → ((i : ℕ) → i < n → p i ≡ true) → every n p ≡ true
+unfolding every
+every-is zero p h = refl
+every-is (suc n) p h = both-yes (every n p) (p n) (every-is n p (λ i lt. h i (omega arith))) (h n (omega arith))
 
 -- an answer of Done tells that the condition holds, and that the rest is done
 pub done-of : (b : Bool) (r n : Answer) → (r ≡ Done → ⊥) → unless b r n ≡ Done → (b ≡ true) × (n ≡ Done)
