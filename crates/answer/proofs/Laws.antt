@@ -1,7 +1,7 @@
 -- The laws of a row of conditions, and of what a step leaves after each answer. Assumes nothing.
 use mathlib.Core.Path.{_≡_, refl, sym, ap, _∙_, subst}
 use mathlib.Core.Bool.{Bool, true, false}
-use mathlib.Core.List.{List, [], _∷_}
+use mathlib.Core.List.{[], _∷_}
 use Prim.Native.Nat.{ℕ, zero, suc, _+_, _<_}
 use lib.Dec.{eqb}
 use borrow.Author.Tests.{eqb-true}
@@ -48,6 +48,12 @@ apart e = let z : _≡_ {A = ℕ} 0 1 = cc in absurd (omega arith)
 pub both-of : (a b : Bool) → both a b ≡ true → (a ≡ true) × (b ≡ true)
 both-of true b e = (refl, e)
 both-of false b e = apart e
+
+-- two conditions that imply each other are the same
+pub same-when : (a b : Bool) → (a ≡ true → b ≡ true) → (b ≡ true → a ≡ true) → a ≡ b
+same-when true b f g = sym (f refl)
+same-when false true f g = g refl
+same-when false false f g = refl
 
 -- a condition for each number below n: one number more, what all of them tell of each, and back
 pub every-more : (n : ℕ) (p : ℕ → Bool) → every (n + 1) p ≡ both (every n p) (p n)

@@ -5,7 +5,7 @@ use Prim.Native.Nat.{ℕ, _+_, _*_, _^_, _<_}
 use native.Mathlib.Nat.{mod-eq-of-lt}
 use native.Mathlib.Omega.{arith}
 use lib.ListN.{length, take, length-append}
-use lib.Seq.{take-at, drop-at, drop-drop}
+use lib.Seq.{take-at, take-all, drop-at}
 use Rattle.words.specs.Bytes.{Bytes, bytes, word64, part, concat}
 use Rattle.words.proofs.Numbers.{number-bytes, word64-part}
 use Rattle.words.proofs.Concat.{concat-length, concat-part, part-lt}
@@ -24,35 +24,44 @@ word-at s a x h e =
     ∙ number-bytes 8 x
     ∙ mod-eq-of-lt h
 
-module _ (len g : ℕ) (choices table : List ℕ) where
-  abbrev sent : ℕ → List ℕ
-  sent c = bytes 8 (foldBytes g (columnOf len table c))
+-- all columns' folds, 8 bytes each
+abbrev foldsOf : ℕ → ℕ → List ℕ → List ℕ
+foldsOf len g table = concat columns (λ c. bytes 8 (foldBytes g (columnOf len table c)))
 
+-- that of column c
+pub fold-at : (len g : ℕ) (table : List ℕ) → g < 2 ^ 64 → Bytes table → (c : ℕ) → c < columns
+    → word64 (foldsOf len g table) (8 * c) ≡ foldBytes g (columnOf len table c)
+fold-at len g table hg h c lt =
+    let turn : 8 * c ≡ c * 8 = omega arith in
+    word-at (foldsOf len g table) (8 * c) (foldBytes g (columnOf len table c))
+    (foldBytes-lt g (columnOf len table c) hg (part-lt (c * len) len table 256 (omega arith) h))
+    (ap (λ (a : ℕ). part a 8 (foldsOf len g table)) turn
+    ∙ concat-part (λ c. bytes 8 (foldBytes g (columnOf len table c))) 8 columns (λ c h. refl) c lt)
+
+module _ (len g : ℕ) (choices table : List ℕ) where
   abbrev first : List ℕ
   first = bytes 8 (foldBytes g choices)
 
+  long : length (foldsOf len g table) ≡ 1024
+  long = concat-length (λ c. bytes 8 (foldBytes g (columnOf len table c))) 8 columns (λ c h. refl)
+
   pub message-length : length (checkMessage len g choices table) ≡ 1032
   unfolding checkMessage
-  message-length =
-      length-append first (concat columns sent)
-      ∙ ap (λ (n : ℕ). 8 + n) (concat-length sent 8 columns (λ c h. refl))
+  message-length = length-append first (foldsOf len g table) ∙ ap (λ (n : ℕ). 8 + n) long
 
   -- the fold of the choices comes first
   pub sent-choice : g < 2 ^ 64 → Bytes choices → word64 (checkMessage len g choices table) 0 ≡ foldBytes g choices
   unfolding checkMessage
   sent-choice hg h =
       word-at (checkMessage len g choices table) 0 (foldBytes g choices) (foldBytes-lt g choices hg h)
-      (take-at first (concat columns sent) 8 refl)
+      (take-at first (foldsOf len g table) 8 refl)
 
   -- and those of the columns after it
   pub sent-column : g < 2 ^ 64 → Bytes table → (c : ℕ) → c < columns
       → word64 (checkMessage len g choices table) (8 + 8 * c) ≡ foldBytes g (columnOf len table c)
   unfolding checkMessage
   sent-column hg h c lt =
-      let turn : 8 + 8 * c ≡ 8 + c * 8 = omega arith in
-      word-at (checkMessage len g choices table) (8 + 8 * c) (foldBytes g (columnOf len table c))
-      (foldBytes-lt g (columnOf len table c) hg (part-lt (c * len) len table 256 (omega arith) h))
-      (ap (λ (a : ℕ). part a 8 (checkMessage len g choices table)) turn
-      ∙ ap (take 8) (sym (drop-drop (c * 8) 8 (checkMessage len g choices table)))
-      ∙ ap (λ (s : List ℕ). part (c * 8) 8 s) (drop-at first (concat columns sent) 8 refl)
-      ∙ concat-part sent 8 columns (λ c h. refl) c lt)
+      sym (word64-part (checkMessage len g choices table) 8 1024 (8 * c) (omega arith))
+      ∙ ap (λ (s : List ℕ). word64 s (8 * c))
+      (ap (take 1024) (drop-at first (foldsOf len g table) 8 refl) ∙ take-all 1024 (foldsOf len g table) (omega (arith, long)))
+      ∙ fold-at len g table hg h c lt

@@ -1,3 +1,4 @@
 -- The laws that other crates cite.
 pub mod Laws
 pub mod Folds
+pub mod Sides

@@ -1,13 +1,17 @@
-// The check: the receiver's message of folds. Choices and columns are secret; a fold reads every byte of them, at places that only
-// the length decides. The key is public.
+// The check: the receiver's message of folds, and whether the sender accepts one. Choices, columns and delta are secret; a fold reads
+// every byte of a column, at places that only the length decides, and all columns are looked at before the answer. The key and the
+// answer are public.
 ghost use mathlib.Core.Path.{_≡_};
-ghost use Prim.Native.Nat.{ℕ, _*_};
+ghost use Prim.Native.Nat.{ℕ, _+_, _*_, _<_};
 ghost use lib.ListN.{length, getD};
-ghost use Rattle.words.specs.Bytes.{bytes, concat};
+ghost use Rattle.words.specs.Bytes.{bytes, word64, concat};
+ghost use Rattle.words.specs.Bits.{bitAt};
+ghost use Rattle.words.specs.Xor.{_⊕_};
 ghost use Rattle.gf64.specs.Field.{foldBytes};
 ghost use Rattle.gf64.specs.Table.{tableOf};
+ghost use Rattle.gf64.specs.Check.{choiceSide};
 ghost use Rattle.tree.specs.Layout.{columns, columnOf};
-ghost use Rattle.consistency.specs.Message.{checkMessage};
+ghost use Rattle.consistency.specs.Message.{checkMessage, sentChoice, sentColumn, accepts};
 
 // Lays out four words, 8 bytes each.
 fn store_four(out: &mut [u8], x: [u64; 4])
@@ -47,4 +51,34 @@ pub fn write_message(key: u64, choices: &[u8], table: &[u8], message: &mut [u8])
     words::store64(message, 0, gf64::fold(key, choices));
     let t = gf64::table(key);
     fold_columns(&t, table, choices.len(), &mut message[8..1032]);
+}
+
+// The two sides of the check in column c, added, where folds has those of the sender's columns: 0 where they are equal.
+fn difference(folds: &[u8], delta: &[u8], message: &[u8], c: usize) -> u64
+    requires { ⌜ (c < columns) × (length (now folds) ≡ 8 * columns) × (length (now delta) ≡ 16) × (length (now message) ≡ 1032) ⌝ }
+    ensures { λ r. ⌜ r ≡ ((sentColumn (now (message .entry)) c ⊕ word64 (now (folds .entry)) (8 * c)) ⊕ choiceSide (bitAt (now (delta .entry)) c) (sentChoice (now (message .entry)))) ⌝ }
+{
+    let folded = words::load64(folds, 8 * c);
+    let sent = words::load64(message, 8 + 8 * c);
+    let choice = words::load64(message, 0);
+    let bit = words::bit(delta, c);
+    gf64::add_bit64(sent ^ folded, bit as u64, choice)
+}
+
+// Whether the sender accepts a message: the two sides are equal in every column. No column is told, and none is left out once one
+// differs.
+pub fn accepts(key: u64, table: &[u8], delta: &[u8], message: &[u8], len: usize) -> bool
+    requires { ⌜ (length (now table) ≡ columns * len) × (length (now delta) ≡ 16) × (length (now message) ≡ 1032) ⌝ }
+    ensures { λ r. ⌜ r ≡ accepts len key (now (table .entry)) (now (delta .entry)) (now (message .entry)) ⌝ }
+{
+    let t = gf64::table(key);
+    let mut folds = [0u8; 1024];
+    fold_columns(&t, table, len, &mut folds);
+    let mut all: u64 = 0;
+    let mut c: usize = 0;
+    while c < 128 {
+        all = all | difference(&folds, delta, message, c);
+        c += 1;
+    }
+    all == 0
 }
