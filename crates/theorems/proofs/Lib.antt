@@ -4,3 +4,4 @@ pub mod Batch
 pub mod Small
 pub mod Column
 pub mod Refusals
+pub mod Verdict

@@ -1,3 +1,4 @@
 pub mod Cases
 pub mod Errors
 pub mod Demand1
+pub mod Demand3

@@ -1,0 +1,144 @@
+-- Demand 3 holds, whatever is sent. Assumes nothing.
+use mathlib.Core.Path.{_≡_, refl, sym, ap, ap₂, _∙_, subst}
+use mathlib.Core.Bool.{Bool, true, false}
+use mathlib.Core.Logic.{_⊎_, inl, inr, _↔_, _≢_}
+use mathlib.Core.List.{List}
+use Prim.Native.Nat.{ℕ, _+_, _-_, _*_, _/_, _%_, _<_}
+use native.Mathlib.Nat.{zero-mul, one-mul}
+use native.Mathlib.Omega.{arith}
+use lib.Arith.{digits-div}
+use lib.ListN.{length, getD}
+use borrow.Author.Tests.{eqb-true, eq-eqb}
+use Rattle.words.specs.Bits.{bitAt}
+use Rattle.words.proofs.Xor.{digit, bit-lt}
+use Rattle.words.proofs.Sums.{ofBits-same}
+use Rattle.words.proofs.Concat.{place-fits}
+use Rattle.tree.specs.Layout.{columns, treesOf, deltaOf, columnLength}
+use Rattle.tree.proofs.Widths.{Fits, width-fits}
+use Rattle.answer.specs.declared.Answer.{Answer}
+use Rattle.answer.specs.declared.Answer.the-variants.{Done, Width, Stage, Batch, Blocks, Length, Check}
+use Rattle.answer.specs.Answer.{unless, whenDone, whenFailed}
+use Rattle.answer.proofs.Laws.{every-of, every-is}
+use Rattle.setup.specs.Setup.{besidePaths}
+use Rattle.setup.proofs.Answers.{receiver-fits}
+use Rattle.columns.specs.Columns.{senderTable}
+use Rattle.columns.proofs.Tables.{senderTable-length}
+use Rattle.consistency.specs.Message.{sidesEqual, accepts}
+use Rattle.pads.specs.Pads.{senderPads}
+use Rattle.session.specs.Steps.{inOrder, withoutBatch, closed}
+use Rattle.session.proofs.Order.{all-hold, correct-fits, verify-fits}
+use Rattle.theorems.specs.Errors.{Sent, lengthOf, columnError, foldedError}
+use Rattle.theorems.specs.Demand3.{Run, SidesEqual, ErrorsMeet, EveryColumn, TreePasses, Accepts, Closes, Demand3}
+use Rattle.theorems.proofs.Setup.{siblings-are}
+use Rattle.theorems.proofs.Column.{column-law}
+use Rattle.theorems.proofs.Refusals.{differ}
+
+-- ---- the verify's answer
+
+neither : (answer a : Answer) → a ≢ Done → a ≢ Check → answer ≡ a → (answer ≡ Done) ⊎ (answer ≡ Check) → ⊥
+neither answer a done check e (inl q) = done (sym e ∙ q)
+neither answer a done check e (inr q) = check (sym e ∙ q)
+
+-- where it is done or the check failed, the conditions before the check hold, and the check decides
+judged : (w s b p l accepted : Bool) (answer : Answer)
+    → answer ≡ whenDone (inOrder w s b p l) (unless accepted Check Done) (inOrder w s b p l)
+    → (answer ≡ Done) ⊎ (answer ≡ Check)
+    → (inOrder w s b p l ≡ Done) × (answer ≡ unless accepted Check Done)
+unfolding inOrder
+judged false s b p l x a e or = absurd (neither a Width (differ Width Done (λ z. omega arith)) (differ Width Check (λ z. omega arith)) e or)
+judged true false b p l x a e or = absurd (neither a Stage (differ Stage Done (λ z. omega arith)) (differ Stage Check (λ z. omega arith)) e or)
+judged true true false p l x a e or = absurd (neither a Batch (differ Batch Done (λ z. omega arith)) (differ Batch Check (λ z. omega arith)) e or)
+judged true true true false l x a e or = absurd (neither a Blocks (differ Blocks Done (λ z. omega arith)) (differ Blocks Check (λ z. omega arith)) e or)
+judged true true true true false x a e or = absurd (neither a Length (differ Length Done (λ z. omega arith)) (differ Length Check (λ z. omega arith)) e or)
+judged true true true true true x a e or = (refl, e)
+
+apart : _≡_ {A = Bool} true false → ⊥
+apart e = let z : _≡_ {A = ℕ} 0 1 = cc in omega arith
+
+-- ---- a run
+
+module _ (s : Sent) (delta : List ℕ) (run : Run s delta) where
+  abbrev k : ℕ
+  k = s .width
+
+  abbrev len : ℕ
+  len = lengthOf s
+
+  width : Fits k
+  width = width-fits k (receiver-fits _ _ _ _ (sym (run .receiver-setup .answered)) .0)
+
+  correction-fits : length (s .correction) ≡ (treesOf k - 1) * len
+  correction-fits =
+      let all = all-hold _ _ _ _ _ (sym (run .sender-correct .answered)) in
+      correct-fits _ _ _ _ _ _ (all .4) .2 ∙ ap (λ (w : ℕ). (treesOf w - 1) * len) (run .same-width)
+
+  -- the sender's table is that of the nodes beside the paths
+  table-is : run .table′ ≡ senderTable k (s .batch) len (besidePaths k delta (s .roots)) delta (s .correction)
+  table-is =
+      run .sender-correct .filled
+      ∙ ap₂ (λ (w : ℕ) (siblings : List ℕ). senderTable w (s .batch) len siblings delta (s .correction)) (run .same-width)
+      (siblings-are k (s .roots) (run .basePads) (run .setupMessage) (run .setupMessage′) delta (run .siblings) (run .siblings′) Done Done
+      (run .receiver-setup) (run .sender-setup) refl refl)
+
+  each-column : EveryColumn (λ c. SidesEqual s delta (run .table′) c ↔ ErrorsMeet s delta c)
+  each-column c lt =
+      subst (λ (t : List ℕ). SidesEqual s delta t c ↔ ErrorsMeet s delta c) (sym table-is)
+      (column-law s correction-fits delta (width .some) (width .columns) (run .bytes) c lt)
+
+  -- the verify tells of the batch whose table it was given
+  same-blocks : (blocks : ℕ) → length (run .table′) ≡ columns * columnLength blocks → blocks ≡ s .blocks
+  same-blocks blocks e =
+      omega (arith, e, ap length table-is, senderTable-length k (s .batch) len (besidePaths k delta (s .roots)) delta (s .correction) (width .columns))
+
+  decided : (x : Bool) → accepts len (s .key) (run .table′) delta (s .message) ≡ x → run .answer ≡ unless x Check Done
+      → run .q .blocks ≡ s .blocks → Accepts s delta run ⊎ Closes s delta run
+  unfolding accepts
+  decided true e a same = inl record {
+    meet = λ c lt. each-column c lt .0 (eqb-true _ _ (every-of columns (sidesEqual len (s .key) (run .table′) delta (s .message)) e c lt));
+    answered = a;
+    recorded = run .sender-verify .recorded ∙ ap (λ (x : Answer). whenDone x (withoutBatch (run .q)) (whenFailed x (closed (run .q)) (run .q))) a;
+    padded = run .sender-verify .padded
+        ∙ ap₂ (λ (x : Answer) (blocks : ℕ). whenDone x (senderPads blocks (run .q .last) (run .table′) delta) (run .pads)) a same;
+  }
+  decided false e a same = inr record {
+    differ = λ meet.
+        apart
+        (sym (every-is columns (sidesEqual len (s .key) (run .table′) delta (s .message)) (λ c lt. eq-eqb _ _ (each-column c lt .1 (meet c lt)))) ∙ e);
+    answered = a;
+    recorded = run .sender-verify .recorded ∙ ap (λ (x : Answer). whenDone x (withoutBatch (run .q)) (whenFailed x (closed (run .q)) (run .q))) a;
+    padded = run .sender-verify .padded
+        ∙ ap (λ (x : Answer). whenDone x (senderPads (run .q .blocks) (run .q .last) (run .table′) delta) (run .pads)) a;
+  }
+
+  decides : Accepts s delta run ⊎ Closes s delta run
+  decides =
+      let verdict : Bool = accepts (columnLength (run .q .blocks)) (s .key) (run .table′) delta (s .message) in
+      let decision = judged _ _ _ _ _ verdict (run .answer) (run .sender-verify .answered) (run .unrefused) in
+      let same = same-blocks (run .q .blocks) (verify-fits _ _ _ _ _ (all-hold _ _ _ _ _ (decision .0) .4) .0) in
+      decided verdict (ap (λ (blocks : ℕ). accepts (columnLength blocks) (s .key) (run .table′) delta (s .message)) (sym same)) (decision .1) same
+
+  -- in each column of a tree that passes, delta's bit times the folded error is the error in the sent fold
+  tree-meets : (i : ℕ) → i < treesOf k → TreePasses s delta (run .table′) i → (b : ℕ) → b < k
+      → bitAt delta (i * k + b) * foldedError s i ≡ columnError s (i * k + b)
+  tree-meets i h passes b lt =
+      let in-table : i * k + b < columns = omega (arith, place-fits i (treesOf k) k h, width .columns) in
+      ap (λ (t : ℕ). bitAt delta (i * k + b) * foldedError s t) (sym (digits-div i lt)) ∙ each-column (i * k + b) in-table .0 (passes b lt)
+
+-- ---- two runs
+
+bit-found : (p q e : ℕ) → p < 2 → q < 2 → e ≢ 0 → p * e ≡ q * e → p ≡ q
+bit-found p q e hp hq ne =
+    digit (λ (p : ℕ). p * e ≡ q * e → p ≡ q)
+    (digit (λ (q : ℕ). 0 * e ≡ q * e → 0 ≡ q) (λ z. refl) (λ z. absurd (ne (sym (one-mul e) ∙ sym z ∙ zero-mul e))) q hq)
+    (digit (λ (q : ℕ). 1 * e ≡ q * e → 1 ≡ q) (λ z. absurd (ne (sym (one-mul e) ∙ z ∙ zero-mul e))) (λ z. refl) q hq) p hp
+
+pub demand3 : (s : Sent) → Demand3 s
+demand3 s = record {
+  columns-law = each-column s;
+  verdict = decides s;
+  at-most-one = λ delta delta₂ run run₂ i h ne passes passes₂.
+      ofBits-same (s .width) (λ b. bitAt delta (i * s .width + b)) (λ b. bitAt delta₂ (i * s .width + b))
+      (λ b lt.
+      bit-found _ _ (foldedError s i) (bit-lt _ _) (bit-lt _ _) ne
+      (tree-meets s delta run i h passes b lt ∙ sym (tree-meets s delta₂ run₂ i h passes₂ b lt)));
+}
