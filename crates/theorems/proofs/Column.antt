@@ -25,7 +25,7 @@ use Rattle.columns.proofs.Honest.{delta-bit}
 use Rattle.consistency.specs.Message.{sentChoice, sentColumn}
 use Rattle.theorems.specs.Errors.{Sent, lengthOf, honestChoices, honestColumn, honestCorrection, treeError, choiceError, columnError, foldedError}
 use Rattle.theorems.proofs.Batch.{honest-columns}
-use Rattle.theorems.proofs.Small.{uOf-bytes, receiverColumn-bytes}
+use Rattle.theorems.proofs.Small.{uOf-bytes, receiverColumn-bytes, nextCorrection-bytes}
 
 -- ---- sums
 
@@ -111,15 +111,9 @@ module _ (s : Sent) (fits : length (s .correction) ≡ (treesOf (s .width) - 1) 
       xorList-bytes (treeCorrection len (s .correction) (suc i)) (treeCorrection len (honestCorrection s) (suc i))
       (received-length i h ∙ sym (honest-length i h))
       (part-lt (i * len) len (s .correction) 256 (zero-lt-suc 255) small)
-      (λ x. rw (ap (λ (l : List ℕ). getD l x 0) (correction-part (s .width) (s .batch) len (s .roots) i h)) (next-bytes x))
-    where
-      own : List ℕ
-      own = uOf (s .width) (s .batch) len (rootOf (s .roots) (suc i))
-
-      next-bytes : Bytes (xorList own (honestChoices s))
-      next-bytes =
-          xorList-bytes own (honestChoices s) (uOf-length (s .width) (s .batch) len _ ∙ sym (uOf-length (s .width) (s .batch) len _))
-          (uOf-bytes (s .width) (s .batch) len _) (uOf-bytes (s .width) (s .batch) len _)
+      (λ x.
+      rw (ap (λ (l : List ℕ). getD l x 0) (correction-part (s .width) (s .batch) len (s .roots) i h))
+      (nextCorrection-bytes (s .width) (s .batch) len (s .roots) i x))
 
   module _ (delta : List ℕ) (pos : 0 < s .width) (full : treesOf (s .width) * s .width ≡ columns) (small : Bytes (s .correction))
       (c : ℕ) (lt : c < columns) where

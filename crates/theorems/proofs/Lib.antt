@@ -5,3 +5,5 @@ pub mod Small
 pub mod Column
 pub mod Refusals
 pub mod Verdict
+pub mod NoErrors
+pub mod Agree

@@ -1,19 +1,22 @@
 -- Streams, and so the columns made of them, hold bytes. Assumes nothing.
-use mathlib.Core.Path.{_≡_}
-use mathlib.Core.List.{List}
-use Prim.Native.Nat.{ℕ, zero, suc, _+_, _*_, _/_, _%_, _^_, _<_}
+use mathlib.Core.Path.{_≡_, sym, _∙_}
+use mathlib.Core.List.{List, [], _∷_, _++_}
+use Prim.Native.Nat.{ℕ, zero, suc, _+_, _-_, _*_, _/_, _%_, _^_, _<_}
 use native.Mathlib.Nat.{mod-lt, zero-lt-suc}
 use native.Mathlib.Omega.{arith}
-use lib.Bits.{bitXor, xor-lt}
-use lib.ListN.{length, getD}
-use Rattle.words.specs.Bytes.{Bytes, bytes, part, concat}
+use lib.Bits.{xor-lt}
+use lib.ListN.{getD}
+use Rattle.words.specs.Bytes.{Bytes, bytes, concat}
 use Rattle.words.specs.Bits.{bitOf}
 use Rattle.words.proofs.Xor.{bit-lt, scale-lt}
-use Rattle.words.proofs.Lists.{tabulate-lt}
+use Rattle.words.specs.Xor.{xorList}
+use Rattle.words.proofs.Lists.{tabulate-lt, xorList-bytes}
 use Rattle.tree.specs.Tree.{childOf, sumBelow, streamByte}
 use Rattle.tree.specs.Lanes.{streamWord}
 use Rattle.tree.proofs.Streams.{stream-byte}
-use Rattle.columns.specs.Columns.{uOf, receiverColumn}
+use Rattle.tree.specs.Layout.{rootOf, treesOf}
+use Rattle.columns.specs.Columns.{tableOf, uOf, choicesOf, receiverColumn, receiverTable, correctionOf}
+use Rattle.columns.proofs.Tables.{uOf-length}
 
 pub bytes-lt : (n x b : ℕ) → getD (bytes n x) b 0 < 256
 bytes-lt zero x b = zero-lt-suc 255
@@ -42,3 +45,31 @@ receiverColumn-bytes k batch len root b =
     (λ x.
     sum-lt 8 k root 0 (λ y leaf. bitOf y b * streamByte batch x leaf)
     (λ y leaf. scale-lt 256 (bitOf y b) (streamByte batch x leaf) (bit-lt y b) (stream-lt batch x leaf)))
+
+-- lists of bytes one after the other
+append-bytes : (xs ys : List ℕ) → Bytes xs → Bytes ys → Bytes (xs ++ ys)
+append-bytes [] ys hx hy i = hy i
+append-bytes (x ∷ xs) ys hx hy zero = hx 0
+append-bytes (x ∷ xs) ys hx hy (suc i) = append-bytes xs ys (λ j. hx (suc j)) hy i
+
+concat-bytes : (n : ℕ) (f : ℕ → List ℕ) → ((i : ℕ) → Bytes (f i)) → Bytes (concat n f)
+unfolding concat
+concat-bytes zero f h i = zero-lt-suc 255
+concat-bytes (suc n) f h i = append-bytes (concat n f) (f n) (concat-bytes n f h) (h n) i
+
+pub receiverTable-bytes : (k batch len : ℕ) (roots : List ℕ) → Bytes (receiverTable k batch len roots)
+unfolding receiverTable tableOf
+receiverTable-bytes k batch len roots =
+    concat-bytes (treesOf k) _ (λ i. concat-bytes k _ (λ b. receiverColumn-bytes k batch len (rootOf roots i) b))
+
+-- a correction
+pub nextCorrection-bytes : (k batch len : ℕ) (roots : List ℕ) (i : ℕ)
+    → Bytes (xorList (uOf k batch len (rootOf roots (suc i))) (choicesOf k batch len roots))
+nextCorrection-bytes k batch len roots i =
+    xorList-bytes (uOf k batch len (rootOf roots (suc i))) (choicesOf k batch len roots)
+    (uOf-length k batch len (rootOf roots (suc i)) ∙ sym (uOf-length k batch len (rootOf roots 0)))
+    (uOf-bytes k batch len (rootOf roots (suc i))) (uOf-bytes k batch len (rootOf roots 0))
+
+pub correctionOf-bytes : (k batch len : ℕ) (roots : List ℕ) → Bytes (correctionOf k batch len roots)
+unfolding correctionOf
+correctionOf-bytes k batch len roots = concat-bytes (treesOf k - 1) _ (nextCorrection-bytes k batch len roots)

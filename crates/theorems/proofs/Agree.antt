@@ -1,0 +1,295 @@
+-- Demand 2 holds: of two honest sides every step is done, and their rows and pads agree. Assumes nothing.
+use mathlib.Core.Path.{_≡_, refl, sym, ap, ap₂, _∙_, subst}
+use mathlib.Core.Bool.{Bool, true, false}
+use mathlib.Core.Logic.{_⊎_, inl, inr}
+use mathlib.Core.List.{List, _++_}
+use Prim.Native.Nat.{ℕ, _+_, _-_, _*_, _<_, _≤_}
+use native.Mathlib.Nat.{mul-comm}
+use native.Mathlib.Omega.{arith}
+use lib.ListN.{length, getD, take, length-append}
+use lib.Seq.{take-at, take-all, drop-at}
+use borrow.Author.Tests.{eq-eqb, lt-ltb}
+use Rattle.words.specs.Bytes.{part}
+use Rattle.words.specs.Bits.{bitAt}
+use Rattle.words.specs.Xor.{xorList, scale}
+use Rattle.words.proofs.Xor.{digit, bit-lt}
+use Rattle.words.proofs.Lists.{xorEach-cancel, xorEach-zero, zeros-at, scale-zero, scale-one}
+use Rattle.words.proofs.Concat.{concat-length, concat-part, part-part}
+use Rattle.answer.specs.declared.Answer.{Answer}
+use Rattle.answer.specs.declared.Answer.the-variants.{Done, Check}
+use Rattle.answer.specs.Answer.{unless, whenDone, widthAllowed}
+use Rattle.answer.proofs.Laws.{both-yes}
+use Rattle.tree.specs.Layout.{columns, treesOf, rootOf, deltaOf, columnLength}
+use Rattle.tree.specs.Path.{siblingNode}
+use Rattle.tree.proofs.Path.{sibling-length}
+use Rattle.tree.proofs.Widths.{Fits, width-fits}
+use Rattle.setup.specs.Setup.{senderBasePads, besidePaths, ReceiverSetup, SenderSetup}
+use Rattle.columns.specs.Columns.{choicesOf, receiverTable, correctionOf, senderTable}
+use Rattle.columns.proofs.Tables.{uOf-length, correctionOf-length, receiverTable-length, senderTable-length}
+use Rattle.pads.specs.Pads.{rowOf, padOf, receiverPads, senderPads}
+use Rattle.pads.proofs.Inputs.{pad-length}
+use Rattle.consistency.specs.Message.{checkMessage, accepts}
+use Rattle.consistency.proofs.Laws.{message-length}
+use Rattle.session.specs.declared.Record.{Record}
+use Rattle.session.specs.Steps.{stageReady, stageOpen, openAnswer, withBatch, endAnswer, withoutBatch, verifyLengths, SenderCorrect}
+use Rattle.session.proofs.Named.{done-when, blocks-named, start-named, correct-named, answer-named, verify-named}
+use Rattle.theorems.specs.Errors.{Sent}
+use Rattle.theorems.specs.Demand2.{Ready, HonestBatch, ended, Demand2}
+use Rattle.theorems.specs.Demand3.{Run, Accepts, Closes}
+use Rattle.theorems.proofs.Setup.{siblings-are, both-done}
+use Rattle.theorems.proofs.Batch.{honest-rows}
+use Rattle.theorems.proofs.Small.{correctionOf-bytes}
+use Rattle.theorems.proofs.NoErrors.{all-meet}
+use Rattle.theorems.proofs.Verdict.{demand3}
+
+-- ---- pads
+
+-- the receiver's pad of a row
+own-pad : (blocks batch j : ℕ) (table : List ℕ) → j < 64 * blocks
+    → part (32 * j) 32 (receiverPads blocks batch table) ≡ padOf batch j (rowOf (columnLength blocks) table j)
+unfolding receiverPads
+own-pad blocks batch j table lt =
+    ap (λ (a : ℕ). part a 32 (receiverPads blocks batch table)) (mul-comm 32 j)
+    ∙ concat-part (λ j. padOf batch j (rowOf (columnLength blocks) table j)) 32 (64 * blocks) (λ j h. pad-length batch j _) j lt
+
+-- the sender's pad numbered x of a row: x times delta is added to the row
+given-pad : (blocks batch j x : ℕ) (table delta : List ℕ) → j < 64 * blocks → x < 2
+    → part (64 * j + 32 * x) 32 (senderPads blocks batch table delta) ≡ padOf batch j (xorList (rowOf (columnLength blocks) table j) (scale x delta))
+unfolding senderPads
+given-pad blocks batch j x table delta lt hx =
+    sym (part-part (32 * x) 32 (64 * j) 64 (senderPads blocks batch table delta) (omega arith))
+    ∙ ap (part (32 * x) 32)
+    (ap (λ (a : ℕ). part a 64 (senderPads blocks batch table delta)) (mul-comm 64 j)
+    ∙ concat-part (λ j. pad j (row j) ++ pad j (xorList (row j) delta)) 64 (64 * blocks)
+    (λ j h. length-append (pad j (row j)) _ ∙ ap₂ _+_ (pad-length batch j (row j)) (pad-length batch j (xorList (row j) delta))) j lt)
+    ∙ digit (λ (x : ℕ). part (32 * x) 32 (pad j (row j) ++ pad j (xorList (row j) delta)) ≡ pad j (xorList (row j) (scale x delta)))
+    (take-at (pad j (row j)) (pad j (xorList (row j) delta)) 32 (pad-length batch j (row j))
+    ∙ ap (pad j) (sym (xorEach-zero (row j) (λ i. getD (scale 0 delta) i 0) (λ i h. ap (λ (l : List ℕ). getD l i 0) (scale-zero delta) ∙ zeros-at (length delta) i))))
+    (ap (take 32) (drop-at (pad j (row j)) (pad j (xorList (row j) delta)) 32 (pad-length batch j (row j)))
+    ∙ take-all 32 (pad j (xorList (row j) delta)) (omega (arith, pad-length batch j (xorList (row j) delta)))
+    ∙ ap (λ (d : List ℕ). pad j (xorList (row j) d)) (sym (scale-one delta)))
+    x hx
+  where
+    row : ℕ → List ℕ
+    row j = rowOf (columnLength blocks) table j
+
+    pad : ℕ → List ℕ → List ℕ
+    pad j r = padOf batch j r
+
+-- ---- records
+
+got : {A : Type 0} (a : Answer) (new old : A) → a ≡ Done → whenDone a new old ≡ new
+got a new old e = ap (λ (x : Answer). whenDone x new old) e
+
+-- a session with an open batch
+record Opened (r : Record) (width batch blocks : ℕ) : Type 0 where
+  wide : r .width ≡ width
+  last-is : r .last ≡ batch
+  blocks-are : r .blocks ≡ blocks
+  open-now : r .stage ≡ stageOpen
+
+opens : (r r₁ : Record) (width batch blocks : ℕ) → Ready r width → r₁ ≡ withBatch r batch blocks → Opened r₁ width batch blocks
+opens r r₁ width batch blocks ready e = record {
+  wide = ap (λ (x : Record). x .width) e ∙ ready .wide;
+  last-is = ap (λ (x : Record). x .last) e;
+  blocks-are = ap (λ (x : Record). x .blocks) e;
+  open-now = ap (λ (x : Record). x .stage) e;
+}
+
+-- a batch may be opened, and an open one be ended
+may-open : (r : Record) (width batch blocks : ℕ) (lengths : Bool) → Ready r width → widthAllowed width ≡ true → r .last < batch
+    → 1 ≤ blocks → blocks ≤ 15 → lengths ≡ true → openAnswer r batch blocks lengths ≡ Done
+may-open r width batch blocks lengths ready allowed next low high named =
+    done-when _ _ _ _ _ (ap widthAllowed (ready .wide) ∙ allowed) (eq-eqb _ _ (ready .ready))
+    (both-yes _ _ (lt-ltb 0 batch (omega (arith, next))) (lt-ltb (r .last) batch next)) (blocks-named blocks low high) named
+
+may-end : (r : Record) (width batch blocks : ℕ) (lengths : Bool) → Opened r width batch blocks → widthAllowed width ≡ true → 0 < batch
+    → 1 ≤ blocks → blocks ≤ 15 → lengths ≡ true → endAnswer r lengths ≡ Done
+may-end r width batch blocks lengths opened allowed some low high named =
+    done-when _ _ _ _ _ (ap widthAllowed (opened .wide) ∙ allowed) (eq-eqb _ _ (opened .open-now))
+    (lt-ltb 0 (r .last) (omega (arith, opened .last-is)))
+    (blocks-named (r .blocks) (omega (arith, opened .blocks-are)) (omega (arith, opened .blocks-are))) named
+
+ended-is : (r : Record) (width batch blocks : ℕ) → Opened r width batch blocks → withoutBatch r ≡ ended width batch
+ended-is r width batch blocks opened =
+    ap₂ (λ (w l : ℕ). record { width = w; last = l; blocks = 0; stage = stageReady }) (opened .wide) (opened .last-is)
+
+beside-length : (k : ℕ) (delta roots : List ℕ) → length (besidePaths k delta roots) ≡ treesOf k * (32 * k)
+unfolding besidePaths
+beside-length k delta roots =
+    concat-length _ (32 * k) (treesOf k)
+    (λ i h.
+    concat-length (siblingNode k (rootOf roots i) (deltaOf k delta i)) 32 k (λ l h. sibling-length k (rootOf roots i) (deltaOf k delta i) l)
+    ∙ mul-comm k 32)
+
+-- ---- an honest batch
+
+module _ (h : HonestBatch) where
+  abbrev k : ℕ
+  k = h .width
+
+  abbrev len : ℕ
+  len = columnLength (h .blocks)
+
+  width : Fits k
+  width = width-fits k (h .width-allowed)
+
+  setups : (h .a₁ ≡ Done) × (h .a₂ ≡ Done)
+  setups =
+      both-done k (h .roots) (h .basePads) (h .setupMessage) (h .setupMessage′) (h .delta) (h .siblings) (h .siblings′) (h .a₁) (h .a₂)
+      (h .receiver-setup) (h .sender-setup) (h .width-allowed) (h .roots-length) (h .base-pads-length) (h .setup-message-length)
+      (h .delta-length) (h .siblings-length)
+
+  siblings-is : h .siblings′ ≡ besidePaths k (h .delta) (h .roots)
+  siblings-is =
+      siblings-are k (h .roots) (h .basePads) (h .setupMessage) (h .setupMessage′) (h .delta) (h .siblings) (h .siblings′) (h .a₁) (h .a₂)
+      (h .receiver-setup) (h .sender-setup) (setups .0) (setups .1)
+
+  -- the receiver's start
+  start-done : h .a₃ ≡ Done
+  start-done =
+      let wide = h .receiver-ready .wide in
+      h .receiver-start .answered
+      ∙ may-open (h .r) k (h .batch) (h .blocks) _ (h .receiver-ready) (h .width-allowed) (h .receiver-next) (h .some-blocks) (h .few-blocks)
+      (start-named (h .r .width) len _ _ _ _ (h .roots-length ∙ ap (λ (w : ℕ). 32 * treesOf w) (sym wide)) (h .choices-length) (h .v-length)
+      (h .correction-length ∙ ap (λ (w : ℕ). (treesOf w - 1) * len) (sym wide)))
+
+  choices-is : h .choices′ ≡ choicesOf k (h .batch) len (h .roots)
+  choices-is = h .receiver-start .chosen ∙ got (h .a₃) _ _ start-done ∙ ap (λ (w : ℕ). choicesOf w (h .batch) len (h .roots)) (h .receiver-ready .wide)
+
+  v-is : h .v′ ≡ receiverTable k (h .batch) len (h .roots)
+  v-is = h .receiver-start .filled ∙ got (h .a₃) _ _ start-done ∙ ap (λ (w : ℕ). receiverTable w (h .batch) len (h .roots)) (h .receiver-ready .wide)
+
+  correction-is : h .correction′ ≡ correctionOf k (h .batch) len (h .roots)
+  correction-is =
+      h .receiver-start .corrected ∙ got (h .a₃) _ _ start-done ∙ ap (λ (w : ℕ). correctionOf w (h .batch) len (h .roots)) (h .receiver-ready .wide)
+
+  receiver-opened : Opened (h .r₁) k (h .batch) (h .blocks)
+  receiver-opened = opens (h .r) (h .r₁) k (h .batch) (h .blocks) (h .receiver-ready) (h .receiver-start .recorded ∙ got (h .a₃) _ _ start-done)
+
+  -- the sender's correction
+  correct-done : h .a₄ ≡ Done
+  correct-done =
+      let wide = h .sender-ready .wide in
+      h .sender-correct .answered
+      ∙ may-open (h .q) k (h .batch) (h .blocks) _ (h .sender-ready) (h .width-allowed) (h .sender-next) (h .some-blocks) (h .few-blocks)
+      (correct-named (h .q .width) len _ _ _ _ (ap length siblings-is ∙ beside-length k (h .delta) (h .roots) ∙ width .single) (h .delta-length)
+      (ap length correction-is ∙ correctionOf-length k (h .batch) len (h .roots) ∙ ap (λ (w : ℕ). (treesOf w - 1) * len) (sym wide)) (h .w-length))
+
+  w-is : h .w′ ≡ senderTable k (h .batch) len (besidePaths k (h .delta) (h .roots)) (h .delta) (correctionOf k (h .batch) len (h .roots))
+  w-is =
+      h .sender-correct .filled ∙ got (h .a₄) _ _ correct-done
+      ∙ ap (λ (w : ℕ). senderTable w (h .batch) len (h .siblings′) (h .delta) (h .correction′)) (h .sender-ready .wide)
+      ∙ ap₂ (λ (s c : List ℕ). senderTable k (h .batch) len s (h .delta) c) siblings-is correction-is
+
+  sender-opened : Opened (h .q₁) k (h .batch) (h .blocks)
+  sender-opened = opens (h .q) (h .q₁) k (h .batch) (h .blocks) (h .sender-ready) (h .sender-correct .recorded ∙ got (h .a₄) _ _ correct-done)
+
+  -- the receiver's answer
+  later : 0 < h .batch
+  later = omega (arith, h .receiver-next)
+
+  answer-done : h .a₅ ≡ Done
+  answer-done =
+      let same : len ≡ columnLength (h .r₁ .blocks) = ap columnLength (sym (receiver-opened .blocks-are)) in
+      h .receiver-answer .answered
+      ∙ may-end (h .r₁) k (h .batch) (h .blocks) _ receiver-opened (h .width-allowed) later (h .some-blocks) (h .few-blocks)
+      (answer-named (h .r₁ .blocks) _ _ _ _ (ap length choices-is ∙ uOf-length k (h .batch) len _ ∙ same)
+      (ap length v-is ∙ receiverTable-length k (h .batch) len (h .roots) (width .columns) ∙ ap (λ (n : ℕ). columns * n) same)
+      (h .message-length) (h .pads-length ∙ ap (λ (n : ℕ). 2048 * n) (sym (receiver-opened .blocks-are))))
+
+  message-is : h .message′ ≡ checkMessage len (h .key) (choicesOf k (h .batch) len (h .roots)) (receiverTable k (h .batch) len (h .roots))
+  message-is =
+      h .receiver-answer .told ∙ got (h .a₅) _ _ answer-done
+      ∙ ap (λ (n : ℕ). checkMessage (columnLength n) (h .key) (h .choices′) (h .v′)) (receiver-opened .blocks-are)
+      ∙ ap₂ (checkMessage len (h .key)) choices-is v-is
+
+  -- the sender's verify: what it was sent is honest, so by demand 3 it accepts
+  abbrev sent : Sent
+  sent = record { roots = h .roots; width = k; batch = h .batch; blocks = h .blocks; correction = h .correction′; message = h .message′; key = h .key }
+
+  unrefused : (h .a₆ ≡ Done) ⊎ (h .a₆ ≡ Check)
+  unrefused = either-way verdict (h .sender-verify .answered ∙ got (endAnswer (h .q₁) lengths) (unless verdict Check Done) (endAnswer (h .q₁) lengths) ends)
+    where
+      verdict : Bool
+      verdict = accepts (columnLength (h .q₁ .blocks)) (h .key) (h .w′) (h .delta) (h .message′)
+
+      lengths : Bool
+      lengths = verifyLengths (h .q₁ .blocks) (length (h .w′)) (length (h .delta)) (length (h .message′)) (length (h .bothPads))
+
+      same : len ≡ columnLength (h .q₁ .blocks)
+      same = ap columnLength (sym (sender-opened .blocks-are))
+
+      ends : endAnswer (h .q₁) lengths ≡ Done
+      ends =
+          may-end (h .q₁) k (h .batch) (h .blocks) lengths sender-opened (h .width-allowed) later (h .some-blocks) (h .few-blocks)
+          (verify-named (h .q₁ .blocks) _ _ _ _
+          (ap length w-is ∙ senderTable-length k (h .batch) len _ (h .delta) _ (width .columns) ∙ ap (λ (n : ℕ). columns * n) same) (h .delta-length)
+          (ap length message-is ∙ message-length len (h .key) _ _) (h .both-pads-length ∙ ap (λ (n : ℕ). 4096 * n) (sym (sender-opened .blocks-are))))
+
+      either-way : (x : Bool) → h .a₆ ≡ unless x Check Done → (h .a₆ ≡ Done) ⊎ (h .a₆ ≡ Check)
+      either-way true e = inl e
+      either-way false e = inr e
+
+  abbrev run : Run sent (h .delta)
+  run = record {
+    basePads = h .basePads;
+    setupMessage = h .setupMessage;
+    setupMessage′ = h .setupMessage′;
+    siblings = h .siblings;
+    siblings′ = h .siblings′;
+    r = h .q;
+    r′ = h .q₁;
+    table = h .w;
+    table′ = h .w′;
+    q = h .q₁;
+    q′ = h .q₂;
+    pads = h .bothPads;
+    pads′ = h .bothPads′;
+    answer = h .a₆;
+    receiver-setup = subst (λ (a : Answer). ReceiverSetup k (h .roots) (h .basePads) (h .setupMessage) a (h .setupMessage′)) (setups .0) (h .receiver-setup);
+    sender-setup = subst (λ (a : Answer). SenderSetup k (h .delta) (senderBasePads k (h .delta) (h .basePads)) (h .setupMessage′) (h .siblings) a (h .siblings′)) (setups .1) (h .sender-setup);
+    same-width = h .sender-ready .wide;
+    sender-correct = subst (λ (a : Answer). SenderCorrect (h .q) (h .siblings′) (h .delta) (h .batch) (h .blocks) (h .correction′) (h .w) a (h .q₁) (h .w′)) correct-done (h .sender-correct);
+    sender-verify = h .sender-verify;
+    unrefused = unrefused;
+    bytes = λ i. rw (ap (λ (l : List ℕ). getD l i 0) correction-is) (correctionOf-bytes k (h .batch) len (h .roots) i);
+  }
+
+  accepted : Accepts sent (h .delta) run
+  accepted = by-verdict (demand3 sent .verdict (h .delta) run)
+    where
+      by-verdict : Accepts sent (h .delta) run ⊎ Closes sent (h .delta) run → Accepts sent (h .delta) run
+      by-verdict (inl x) = x
+      by-verdict (inr x) = absurd (x .differ (all-meet sent (h .key-fits) correction-is message-is (h .delta)))
+
+  row-relation : (j : ℕ) → rowOf len (h .w′) j ≡ xorList (rowOf len (h .v′) j) (scale (bitAt (h .choices′) j) (h .delta))
+  row-relation j =
+      ap (λ (t : List ℕ). rowOf len t j) w-is
+      ∙ honest-rows k (h .batch) len (h .delta) (h .roots) (width .some) (width .columns) (h .delta-bytes) (h .delta-length) j
+      ∙ ap₂ (λ (t u : List ℕ). xorList (rowOf len t j) (scale (bitAt u j) (h .delta))) (sym v-is) (sym choices-is)
+
+  agree : (j : ℕ) → j < 64 * h .blocks → part (32 * j) 32 (h .pads′) ≡ part (64 * j + 32 * bitAt (h .choices′) j) 32 (h .bothPads′)
+  agree j lt =
+      let x : ℕ = bitAt (h .choices′) j in
+      let d : List ℕ = scale x (h .delta) in
+      ap (part (32 * j) 32)
+      (h .receiver-answer .padded ∙ got (h .a₅) _ _ answer-done
+      ∙ ap₂ (λ (blocks batch : ℕ). receiverPads blocks batch (h .v′)) (receiver-opened .blocks-are) (receiver-opened .last-is))
+      ∙ own-pad (h .blocks) (h .batch) j (h .v′) lt
+      ∙ ap (padOf (h .batch) j) (sym (ap (λ (r : List ℕ). xorList r d) (row-relation j) ∙ xorEach-cancel (rowOf len (h .v′) j) (λ i. getD d i 0)))
+      ∙ sym (given-pad (h .blocks) (h .batch) j x (h .w′) (h .delta) lt (bit-lt _ _))
+      ∙ ap (part (64 * j + 32 * x) 32)
+      (sym (accepted .padded ∙ ap (λ (batch : ℕ). senderPads (h .blocks) batch (h .w′) (h .delta)) (sender-opened .last-is)))
+
+pub demand2 : (h : HonestBatch) → Demand2 h
+demand2 h = record {
+  setups-done = setups h;
+  batch-done = (start-done h, correct-done h, answer-done h, accepted h .answered);
+  sessions-ready = (
+    h .receiver-answer .recorded ∙ got (h .a₅) _ _ (answer-done h) ∙ ended-is (h .r₁) (h .width) (h .batch) (h .blocks) (receiver-opened h),
+    accepted h .recorded ∙ ended-is (h .q₁) (h .width) (h .batch) (h .blocks) (sender-opened h),
+  );
+  rows = λ j lt. row-relation h j;
+  pads-agree = agree h;
+}

@@ -1,0 +1,58 @@
+-- Where the honest correction and check message reach the sender, there is no error. Assumes nothing.
+use mathlib.Core.Path.{_≡_, refl, sym, ap, ap₂, _∙_}
+use mathlib.Core.List.{List}
+use Prim.Native.Nat.{ℕ, zero, suc, _+_, _*_, _/_, _^_, _<_}
+use native.Mathlib.Nat.{zero-lt-suc, mul-zero}
+use lib.Bits.{bitXor, xor-self}
+use Rattle.words.specs.Bytes.{Bytes, part}
+use Rattle.words.specs.Bits.{bitAt}
+use Rattle.words.specs.Xor.{xorList}
+use Rattle.words.proofs.Concat.{part-lt}
+use Rattle.gf64.specs.Field.{foldBytes}
+use Rattle.gf64.proofs.Bytes.{foldBytes-xor, foldBytes-zeros}
+use Rattle.tree.specs.Layout.{columns}
+use Rattle.columns.specs.Columns.{receiverTable, treeCorrection}
+use Rattle.consistency.specs.Message.{checkMessage, sentChoice, sentColumn}
+use Rattle.consistency.proofs.Laws.{sent-choice, sent-column}
+use Rattle.theorems.specs.Errors.{Sent, lengthOf, honestChoices, honestColumn, honestCorrection, treeError, choiceError, columnError}
+use Rattle.theorems.specs.Demand3.{ErrorsMeet, EveryColumn}
+use Rattle.theorems.proofs.Small.{uOf-bytes, receiverTable-bytes, correctionOf-bytes}
+
+module _ (s : Sent) (fits : s .key < 2 ^ 64)
+    (honest : s .correction ≡ honestCorrection s)
+    (told : s .message ≡ checkMessage (lengthOf s) (s .key) (honestChoices s) (receiverTable (s .width) (s .batch) (lengthOf s) (s .roots))) where
+  abbrev len : ℕ
+  len = lengthOf s
+
+  abbrev v : List ℕ
+  v = receiverTable (s .width) (s .batch) len (s .roots)
+
+  gone : (x y : ℕ) → x ≡ y → bitXor x y ≡ 0
+  gone x y e = ap (λ (z : ℕ). bitXor z y) e ∙ xor-self y
+
+  no-choice-error : choiceError s ≡ 0
+  no-choice-error =
+      gone (sentChoice (s .message)) (foldBytes (s .key) (honestChoices s))
+      (ap sentChoice told ∙ sent-choice len (s .key) (honestChoices s) v fits (uOf-bytes (s .width) (s .batch) len _))
+
+  no-column-error : (c : ℕ) → c < columns → columnError s c ≡ 0
+  no-column-error c lt =
+      gone (sentColumn (s .message) c) (foldBytes (s .key) (honestColumn s c))
+      (ap (λ (m : List ℕ). sentColumn m c) told
+      ∙ sent-column len (s .key) (honestChoices s) v fits (receiverTable-bytes (s .width) (s .batch) len (s .roots)) c lt)
+
+  no-tree-error : (i : ℕ) → foldBytes (s .key) (treeError s i) ≡ 0
+  unfolding treeError treeCorrection
+  no-tree-error zero = foldBytes-zeros (s .key) len
+  no-tree-error (suc i) =
+      let own : List ℕ = part (i * len) len (honestCorrection s) in
+      let small : Bytes own = part-lt (i * len) len (honestCorrection s) 256 (zero-lt-suc 255) (correctionOf-bytes (s .width) (s .batch) len (s .roots)) in
+      ap (λ (l : List ℕ). foldBytes (s .key) (xorList (part (i * len) len l) own)) honest
+      ∙ foldBytes-xor (s .key) own own refl small small
+      ∙ xor-self (foldBytes (s .key) own)
+
+  pub all-meet : (delta : List ℕ) → EveryColumn (ErrorsMeet s delta)
+  all-meet delta c lt =
+      ap (λ (e : ℕ). bitAt delta c * e) (ap₂ bitXor no-choice-error (no-tree-error (c / s .width)))
+      ∙ mul-zero (bitAt delta c)
+      ∙ sym (no-column-error c lt)

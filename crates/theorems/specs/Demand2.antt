@@ -1,0 +1,112 @@
+-- Demand 2, over six steps: both setups and the four steps of a batch, of two honest sides. Assumes nothing.
+use mathlib.Core.Path.{_≡_}
+use mathlib.Core.Bool.{true}
+use mathlib.Core.List.{List}
+use Prim.Native.Nat.{ℕ, _+_, _-_, _*_, _^_, _<_, _≤_}
+use lib.ListN.{length}
+use Rattle.words.specs.Bytes.{Bytes, part}
+use Rattle.words.specs.Bits.{bitAt}
+use Rattle.words.specs.Xor.{xorList, scale}
+use Rattle.tree.specs.Layout.{columns, treesOf, columnLength}
+use Rattle.answer.specs.declared.Answer.{Answer}
+use Rattle.answer.specs.declared.Answer.the-variants.{Done}
+use Rattle.answer.specs.Answer.{widthAllowed}
+use Rattle.setup.specs.Setup.{senderBasePads, ReceiverSetup, SenderSetup}
+use Rattle.pads.specs.Pads.{rowOf}
+use Rattle.session.specs.declared.Record.{Record}
+use Rattle.session.specs.Steps.{stageReady, ReceiverStart, SenderCorrect, ReceiverAnswer, SenderVerify}
+
+-- the last batch that a session had, and that it is ready for the next
+pub record Ready (r : Record) (width : ℕ) : Type 0 where
+  pub wide : r .width ≡ width
+  pub ready : r .stage ≡ stageReady
+
+-- an honest batch. What a step is lent is named x, and what it leaves there x′
+pub record HonestBatch : Type 0 where
+  -- both sides share base transfers, width, batch, blocks and key; the receiver keeps its roots, the sender its secret
+  pub basePads : List ℕ
+  pub width : ℕ
+  pub batch : ℕ
+  pub blocks : ℕ
+  pub key : ℕ
+  pub roots : List ℕ
+  pub delta : List ℕ
+  -- the receiver's record before the batch, in it and after it, and the sender's
+  pub r : Record
+  pub r₁ : Record
+  pub r₂ : Record
+  pub q : Record
+  pub q₁ : Record
+  pub q₂ : Record
+  -- the ranges out
+  pub setupMessage : List ℕ
+  pub setupMessage′ : List ℕ
+  pub siblings : List ℕ
+  pub siblings′ : List ℕ
+  pub choices : List ℕ
+  pub choices′ : List ℕ
+  pub v : List ℕ
+  pub v′ : List ℕ
+  pub correction : List ℕ
+  pub correction′ : List ℕ
+  pub w : List ℕ
+  pub w′ : List ℕ
+  pub message : List ℕ
+  pub message′ : List ℕ
+  pub pads : List ℕ
+  pub pads′ : List ℕ
+  pub bothPads : List ℕ
+  pub bothPads′ : List ℕ
+  -- the answers
+  pub a₁ : Answer
+  pub a₂ : Answer
+  pub a₃ : Answer
+  pub a₄ : Answer
+  pub a₅ : Answer
+  pub a₆ : Answer
+  -- the six calls: each side hands back what it was given, and is given what the other side made
+  pub receiver-setup : ReceiverSetup width roots basePads setupMessage a₁ setupMessage′
+  pub sender-setup : SenderSetup width delta (senderBasePads width delta basePads) setupMessage′ siblings a₂ siblings′
+  pub receiver-start : ReceiverStart r roots batch blocks choices v correction a₃ r₁ choices′ v′ correction′
+  pub sender-correct : SenderCorrect q siblings′ delta batch blocks correction′ w a₄ q₁ w′
+  pub receiver-answer : ReceiverAnswer r₁ key choices′ v′ message pads a₅ r₂ message′ pads′
+  pub sender-verify : SenderVerify q₁ key w′ delta message′ bothPads a₆ q₂ bothPads′
+  -- the numbers are those that paper 01 allows: both sessions are ready, and the batch comes after their last
+  pub width-allowed : widthAllowed width ≡ true
+  pub some-blocks : 1 ≤ blocks
+  pub few-blocks : blocks ≤ 15
+  pub receiver-ready : Ready r width
+  pub receiver-next : r .last < batch
+  pub sender-ready : Ready q width
+  pub sender-next : q .last < batch
+  -- each range has the length named
+  pub roots-length : length roots ≡ 32 * treesOf width
+  pub delta-length : length delta ≡ 16
+  pub base-pads-length : length basePads ≡ 8192
+  pub setup-message-length : length setupMessage ≡ 8192
+  pub siblings-length : length siblings ≡ 4096
+  pub choices-length : length choices ≡ columnLength blocks
+  pub v-length : length v ≡ columns * columnLength blocks
+  pub correction-length : length correction ≡ (treesOf width - 1) * columnLength blocks
+  pub w-length : length w ≡ columns * columnLength blocks
+  pub message-length : length message ≡ 1032
+  pub pads-length : length pads ≡ 2048 * blocks
+  pub both-pads-length : length bothPads ≡ 4096 * blocks
+  -- the key is a number of 64 bits, and delta is a range of bytes
+  pub key-fits : key < 2 ^ 64
+  pub delta-bytes : Bytes delta
+
+-- a session after a batch: ready for the next
+abbrev pub ended : ℕ → ℕ → Record
+ended width batch = record { width = width; last = batch; blocks = 0; stage = stageReady }
+
+pub record Demand2 (h : HonestBatch) : Type 0 where
+  -- every step is done: the last is the verify, so the sender accepts
+  pub setups-done : (h .a₁ ≡ Done) × (h .a₂ ≡ Done)
+  pub batch-done : (h .a₃ ≡ Done) × (h .a₄ ≡ Done) × (h .a₅ ≡ Done) × (h .a₆ ≡ Done)
+  pub sessions-ready : (h .r₂ ≡ ended (h .width) (h .batch)) × (h .q₂ ≡ ended (h .width) (h .batch))
+  -- each row of the sender, those of the spent block too, is the receiver's row, with delta added where the choice bit is 1
+  pub rows : (j : ℕ) → j < 64 * (h .blocks + 1)
+      → rowOf (columnLength (h .blocks)) (h .w′) j ≡ xorList (rowOf (columnLength (h .blocks)) (h .v′) j) (scale (bitAt (h .choices′) j) (h .delta))
+  -- the receiver's pad of a row is the sender's pad of that choice: pad 0 stands before pad 1
+  pub pads-agree : (j : ℕ) → j < 64 * h .blocks → part (32 * j) 32 (h .pads′) ≡ part (64 * j + 32 * bitAt (h .choices′) j) 32 (h .bothPads′)
