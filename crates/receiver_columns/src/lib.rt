@@ -5,7 +5,6 @@ ghost use Prim.Native.Nat.{ℕ, suc, _+_, _-_, _*_, _/_, _%_, _≤_, _<_};
 ghost use lib.ListN.{length, take};
 ghost use Rattle.words.specs.Bytes.{part, concat};
 ghost use Rattle.words.specs.Lanes.{laneBytes};
-ghost use Rattle.words.specs.Xor.{xorList};
 ghost use Rattle.answer.specs.Answer.{widthAllowed};
 ghost use Rattle.tree.specs.Layout.{treesOf, rootOf};
 ghost use Rattle.columns.specs.Columns.{uOf, choicesOf, receiverColumn, receiverTable, correctionOf};
@@ -111,21 +110,6 @@ fn first_trees(
     words::copy_part(correction, 0, &us[len..all]);
 }
 
-// Adds the choices to each of n corrections.
-fn add_choices(n: usize, choices: &[u8], correction: &mut [u8])
-    requires { ⌜ (n ≤ 128) × (length (now choices) ≤ 128) × (length (now correction) ≡ n * length (now choices)) ⌝ }
-    ensures { λ _. ⌜ now (correction .exit) ≡ concat n (λ i. xorList (part (i * length (now (choices .entry))) (length (now (choices .entry))) (now (correction .entry))) (now (choices .entry))) ⌝ }
-{
-    let len = choices.len();
-    let mut c = 0;
-    while c < n {
-        let at = c * len;
-        let end = at + len;
-        words::xor_into(&mut correction[at..end], choices);
-        c += 1;
-    }
-}
-
 // All trees. What is left in the correction are the sums u, without the choices.
 fn all_trees(
     k: usize,
@@ -198,5 +182,5 @@ pub fn start(
         table,
         correction,
     );
-    add_choices(128 / k - 1, choices, correction);
+    words::xor_parts(correction, 128 / k - 1, choices);
 }

@@ -74,22 +74,22 @@ all-trees-requires c κs =
       (s .pre .1, s .pre .5, s .pre .6),
     )
 
-div-add-choices : tie.Need-div-add-choices
-div-add-choices c =
-    let s = c .before .before .before .before .before .before .before .before .before .before .before .before .before .before .before .before .before .before .before in
+div-xor-parts : tie.Need-div-xor-parts
+div-xor-parts c =
+    let s = c .before .before .before .before .before .before .before .before .before .before .before .before .before .before .before .before .before .before .before .before in
     let len : ℕ = length (s .args .choices .now) in
     let w = whole (s .args .k) len len (s .pre .0) (s .pre .4) (omega arith) in
     w .some
 
-sub-add-choices : tie.Need-sub-add-choices
-sub-add-choices c =
-    let s = c .before .before .before .before .before .before .before .before .before .before .before .before .before .before .before .before .before .before .before in
+sub-xor-parts : tie.Need-sub-xor-parts
+sub-xor-parts c =
+    let s = c .before .before .before .before .before .before .before .before .before .before .before .before .before .before .before .before .before .before .before .before in
     let len : ℕ = length (s .args .choices .now) in
     let w = whole (s .args .k) len len (s .pre .0) (s .pre .4) (omega arith) in
     omega (arith, w .many)
 
-add-choices-requires : tie.Need-add-choices-requires
-add-choices-requires c κs =
+xor-parts-requires : tie.Need-xor-parts-requires
+xor-parts-requires c κs =
     let s = c .before .before .before .before .before .before .before .before .before .before .before .before .before .before .before .before .before .before .before .before .before in
     let len : ℕ = length (s .args .choices .now) in
     let w = whole (s .args .k) len len (s .pre .0) (s .pre .4) (omega arith) in
@@ -121,7 +121,7 @@ returns c =
       did .ensures .0,
       (
         did .ensures .1 .0,
-        c .before .before .add-choices .ensures
+        c .before .before .xor-parts .ensures
             ∙ corrected (treesOf k - 1) len (λ i. uOf k batch len (rootOf roots (suc i))) (λ i. u-length k batch len (rootOf roots (suc i))) _ _
             (uOf k batch len (rootOf roots 0)) (did .ensures .0) (u-length k batch len (rootOf roots 0)) (did .ensures .1 .1),
       ),
@@ -140,9 +140,9 @@ start-spec =
     part-v-start
     part-v-end
     all-trees-requires
-    div-add-choices
-    sub-add-choices
-    add-choices-requires
+    div-xor-parts
+    sub-xor-parts
+    xor-parts-requires
     same-length
     same-length-2
     same-length-3
