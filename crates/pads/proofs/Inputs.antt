@@ -13,8 +13,7 @@ use Rattle.sha256.specs.Sha.{digestOf}
 use Rattle.sha256.specs.Four.{digests}
 use Rattle.sha256.proofs.Blocks.{put-next}
 use Rattle.sha256.proofs.Digests.{digest-length}
-use Rattle.pads.specs.Pads.{letters, rowOf, padInput, padOf}
-use Rattle.pads.proofs.Laws.{row-length}
+use Rattle.pads.specs.Pads.{letters, padInput, padOf}
 
 -- ---- one input
 
@@ -60,7 +59,7 @@ four-hashed batch first values e =
     digests-are (λ i. padInput batch (first + i) (part (i * 16) 16 values))
     (λ i h. input-length batch (first + i) (part (i * 16) 16 values) (part-length (i * 16) 16 values (omega (arith, e, h))))
 
--- ---- pads of rows that stand among others
+-- ---- eight by two times four
 
 -- pads of four values from value i on
 pub four-from : (batch first start i : ℕ) (values : List ℕ) → start ≡ first + i
@@ -69,15 +68,6 @@ pub four-from : (batch first start i : ℕ) (values : List ℕ) → start ≡ fi
 four-from batch first start i values e =
     concat-same 4 _ _
     (λ j h. ap₂ (padOf batch) (ap (λ (n : ℕ). n + j) e ∙ add-assoc first i j) (place-part i 4 j 16 values h))
-
--- pads of eight rows of a table
-pub eight-from : (batch len first : ℕ) (table values : List ℕ) → values ≡ concat 8 (λ i. rowOf len table (first + i))
-    → concat 8 (λ i. padOf batch (first + i) (part (i * 16) 16 values)) ≡ concat 8 (λ i. padOf batch (first + i) (rowOf len table (first + i)))
-eight-from batch len first table values e =
-    concat-same 8 _ _
-    (λ i h.
-    ap (padOf batch (first + i))
-    (ap (part (i * 16) 16) e ∙ concat-part (λ i. rowOf len table (first + i)) 16 8 (λ i h. row-length len table (first + i)) i h))
 
 -- a range of two halves, which were lent one after the other and come back with four pads each
 pub two-halves : (f : ℕ → List ℕ) (xs ys zs : List ℕ) → ys ≡ concat 4 (λ j. f (0 + j)) → zs ≡ concat 4 (λ j. f (4 + j))

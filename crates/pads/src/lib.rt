@@ -2,11 +2,13 @@
 mod rows;
 
 ghost use mathlib.Core.Path.{_≡_};
+ghost use mathlib.Core.List.{_++_};
 ghost use Prim.Native.Nat.{_+_, _*_, _≤_};
 ghost use lib.ListN.{length};
 ghost use Rattle.words.specs.Bytes.{part, concat};
+ghost use Rattle.words.specs.Xor.{xorList};
 ghost use Rattle.tree.specs.Layout.{columnLength};
-ghost use Rattle.pads.specs.Pads.{padInput, padOf, receiverPads};
+ghost use Rattle.pads.specs.Pads.{padInput, padOf, receiverPads, senderPads};
 
 // The head of each hashed block.
 const LETTERS: [u8; 4] = *b"PADS";
@@ -78,6 +80,53 @@ pub fn receiver_pads(batch: u64, blocks: usize, table: &[u8], pads: &mut [u8])
         let start = at * 256;
         let end = next * 256;
         eight_pads(batch, (8 * at) as u32, &values, &mut pads[start..end]);
+        at = next;
+    }
+}
+
+// Lays the pads of eight rows side by side: pad 0 before pad 1 in each row.
+fn pair_pads(pads0: &[u8], pads1: &[u8], pairs: &mut [u8])
+    requires { ⌜ (length (now pads0) ≡ 256) × (length (now pads1) ≡ 256) × (length (now pairs) ≡ 512) ⌝ }
+    ensures { λ _. ⌜ now (pairs .exit) ≡ concat 8 (λ i. part (i * 32) 32 (now (pads0 .entry)) ++ part (i * 32) 32 (now (pads1 .entry))) ⌝ }
+{
+    let mut i = 0;
+    while i < 8 {
+        let next = i + 1;
+        let start = i * 32;
+        let end = next * 32;
+        words::copy_part(pairs, 2 * start, &pads0[start..end]);
+        words::copy_part(pairs, start + end, &pads1[start..end]);
+        i = next;
+    }
+}
+
+// Both pads of eight rows: pad 0 hashes the row value, pad 1 the row value with delta added.
+fn eight_pairs(batch: u64, first: u32, values: [u8; 128], delta: &[u8], pairs: &mut [u8])
+    requires { ⌜ (first + 8 ≤ 4294967296) × (length (now delta) ≡ 16) × (length (now pairs) ≡ 512) ⌝ }
+    ensures { λ _. ⌜ now (pairs .exit) ≡ concat 8 (λ i. padOf batch (first + i) (part (i * 16) 16 values) ++ padOf batch (first + i) (xorList (part (i * 16) 16 values) (now (delta .entry)))) ⌝ }
+{
+    let mut shifted = values;
+    words::xor_parts(&mut shifted, 8, delta);
+    let mut pads0 = [0u8; 256];
+    eight_pads(batch, first, &values, &mut pads0);
+    let mut pads1 = [0u8; 256];
+    eight_pads(batch, first, &shifted, &mut pads1);
+    pair_pads(&pads0, &pads1, pairs);
+}
+
+// The sender's pads: two for each row of its table, but those of the spent block.
+pub fn sender_pads(batch: u64, blocks: usize, table: &[u8], delta: &[u8], pads: &mut [u8])
+    requires { ⌜ (blocks ≤ 15) × (length (now table) ≡ 128 * columnLength blocks) × (length (now delta) ≡ 16) × (length (now pads) ≡ 4096 * blocks) ⌝ }
+    ensures { λ _. ⌜ now (pads .exit) ≡ senderPads blocks batch (now (table .entry)) (now (delta .entry)) ⌝ }
+{
+    let len = 8 * (blocks + 1);
+    let mut at = 0;
+    while at < 8 * blocks {
+        let next = at + 1;
+        let values = rows::eight_rows(table, len, at);
+        let start = at * 512;
+        let end = next * 512;
+        eight_pairs(batch, (8 * at) as u32, values, delta, &mut pads[start..end]);
         at = next;
     }
 }
