@@ -3,7 +3,7 @@ mod answers;
 
 use answer::Answer;
 ghost use mathlib.Core.Path.{_≡_};
-ghost use Rattle.session.specs.Steps.{withBatch, withoutBatch, ReceiverStart, SenderCorrect, ReceiverAnswer};
+ghost use Rattle.session.specs.Steps.{newRecord, withBatch, withoutBatch, OpenSession, ReceiverStart, SenderCorrect, ReceiverAnswer};
 
 // The record of a session: its width, the last batch number (0 for none), the blocks of the open batch, and the stage (0 ready, 1 open,
 // 2 closed). It may hold any numbers.
@@ -19,6 +19,18 @@ pub struct Record {
 pub struct Stepped {
     pub answer: Answer,
     pub record: Record,
+}
+
+// The record of a session that is opened.
+fn fresh(width: u32) -> Record
+    ensures { λ x. ⌜ x ≡ newRecord width ⌝ }
+{
+    Record {
+        width,
+        last: 0,
+        blocks: 0,
+        stage: 0,
+    }
 }
 
 // The record of a batch that is opened.
@@ -42,6 +54,23 @@ fn ended(r: Record) -> Record
         last: r.last,
         blocks: 0,
         stage: 0,
+    }
+}
+
+// Opens a session of a width, whatever the record held.
+pub fn open(r: Record, width: u32) -> Stepped
+    ensures { λ x. ⌜ OpenSession r width (x .answer) (x .record) ⌝ }
+{
+    if answer::width_allowed(width) {
+        let record = fresh(width);
+        return Stepped {
+            answer: Answer::Done,
+            record,
+        };
+    }
+    Stepped {
+        answer: Answer::Width,
+        record: r,
     }
 }
 
