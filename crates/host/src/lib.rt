@@ -1,6 +1,10 @@
 // What the host program, written in C, calls: numbers and byte ranges. include/softspoken.h declares it.
+mod numbered;
+
+use session::Record;
 ghost use Rattle.answer.specs.Answer.{Numbered};
 ghost use Rattle.setup.specs.Setup.{ReceiverSetup, SenderSetup};
+ghost use Rattle.session.specs.Steps.{OpenSession, ReceiverStart, SenderCorrect, ReceiverAnswer};
 
 // The receiver's setup. It returns the answer's number.
 #[no_mangle]
@@ -29,4 +33,67 @@ pub extern "C" fn softspoken_sender_setup(
 {
     let answer = setup::sender_setup(width, delta, base_pads, message, siblings);
     answer::number_of(answer)
+}
+
+// Opens a session of a width on a lent record, whatever that held. It returns the answer's number.
+#[no_mangle]
+pub extern "C" fn softspoken_open(rec: &mut Record, width: u32) -> u32
+    ensures { λ x. ⌜ Numbered (λ answer. OpenSession (now (rec .entry)) width answer (now (rec .exit))) x ⌝ }
+{
+    let s = numbered::open(*rec, width);
+    *rec = s.record;
+    s.number
+}
+
+// The receiver's start on a lent record. It returns the answer's number.
+#[no_mangle]
+pub extern "C" fn softspoken_receiver_start(
+    rec: &mut Record,
+    roots: &[u8],
+    batch: u32,
+    blocks: u32,
+    choices: &mut [u8],
+    table: &mut [u8],
+    correction: &mut [u8],
+) -> u32
+    ensures { λ x. ⌜ Numbered (λ answer. ReceiverStart (now (rec .entry)) (now (roots .entry)) batch blocks (now (choices .entry)) (now (table .entry)) (now (correction .entry)) answer (now (rec .exit)) (now (choices .exit)) (now (table .exit)) (now (correction .exit))) x ⌝ }
+{
+    let s = numbered::receiver_start(*rec, roots, batch, blocks, choices, table, correction);
+    *rec = s.record;
+    s.number
+}
+
+// The sender's correction on a lent record. It returns the answer's number.
+#[no_mangle]
+pub extern "C" fn softspoken_sender_correct(
+    rec: &mut Record,
+    siblings: &[u8],
+    delta: &[u8],
+    batch: u32,
+    blocks: u32,
+    correction: &[u8],
+    table: &mut [u8],
+) -> u32
+    ensures { λ x. ⌜ Numbered (λ answer. SenderCorrect (now (rec .entry)) (now (siblings .entry)) (now (delta .entry)) batch blocks (now (correction .entry)) (now (table .entry)) answer (now (rec .exit)) (now (table .exit))) x ⌝ }
+{
+    let s = numbered::sender_correct(*rec, siblings, delta, batch, blocks, correction, table);
+    *rec = s.record;
+    s.number
+}
+
+// The receiver's answer on a lent record. It returns the answer's number.
+#[no_mangle]
+pub extern "C" fn softspoken_receiver_answer(
+    rec: &mut Record,
+    key: u64,
+    choices: &[u8],
+    table: &[u8],
+    message: &mut [u8],
+    pads: &mut [u8],
+) -> u32
+    ensures { λ x. ⌜ Numbered (λ answer. ReceiverAnswer (now (rec .entry)) key (now (choices .entry)) (now (table .entry)) (now (message .entry)) (now (pads .entry)) answer (now (rec .exit)) (now (message .exit)) (now (pads .exit))) x ⌝ }
+{
+    let s = numbered::receiver_answer(*rec, key, choices, table, message, pads);
+    *rec = s.record;
+    s.number
 }
