@@ -1,5 +1,5 @@
 -- The ChaCha20 block function of RFC 8439, section 2. A state is a list of sixteen words below 2^32. Assumes nothing.
-use Prim.Native.Nat.{ℕ, zero, suc, _*_}
+use Prim.Native.Nat.{ℕ, zero, suc}
 use mathlib.Core.List.{List, [], _∷_}
 use lib.ListN.{getD, set}
 use Rattle.words.specs.Bytes.{word32, bytesOfWords}

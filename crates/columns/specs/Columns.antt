@@ -1,7 +1,7 @@
 -- The columns of a batch, as the receiver's start and the sender's correction make them. Paper 01, 'Trees and streams'. len is its L,
 -- the bytes of a column. Assumes nothing.
 use mathlib.Core.List.{List, []}
-use Prim.Native.Nat.{ℕ, zero, suc, _+_, _-_, _*_}
+use Prim.Native.Nat.{ℕ, zero, suc, _-_, _*_}
 use lib.ListN.{getD}
 use Rattle.words.specs.Bytes.{part, tabulate, concat}
 use Rattle.words.specs.Bits.{bitOf}

@@ -8,7 +8,7 @@ use native.Mathlib.Numerals.{add-one}
 use lib.ListN.{length, getD, take}
 use Rattle.words.specs.Bytes.{bytes, part, put, concat}
 use Rattle.words.proofs.Below.{below}
-use Rattle.words.proofs.Lists.{put-length, put-front}
+use Rattle.words.proofs.Parts.{put-length, put-front}
 use Rattle.words.proofs.Concat.{concat-same, place-part}
 use Rattle.gf64.specs.Field.{foldBytes}
 use Rattle.gf64.specs.Table.{foldsOf}

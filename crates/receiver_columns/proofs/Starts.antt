@@ -10,7 +10,8 @@ use lib.Seq.{getD-take, take-at, drop-at}
 use Rattle.words.specs.Bytes.{bytes, part, tabulate, concat, put}
 use Rattle.words.specs.Lanes.{laneBytes}
 use Rattle.words.specs.Xor.{xorEach, xorList}
-use Rattle.words.proofs.Lists.{tabulate-length, tabulate-at, zeros-at, zeros-sum, put-all}
+use Rattle.words.proofs.Lists.{tabulate-length, tabulate-at, zeros-at, zeros-sum}
+use Rattle.words.proofs.Parts.{put-all}
 use Rattle.words.proofs.Concat.{place-fits, part-at, part-part, place-part, concat-same, concat-add, concat-length, concat-part}
 use Rattle.words.proofs.LaneBytes.{lane-is}
 use Rattle.chacha20.specs.Lanes.{keyIn}

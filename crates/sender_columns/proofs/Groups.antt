@@ -2,14 +2,15 @@
 use mathlib.Core.Path.{_≡_, sym, ap, ap₂, _∙_}
 use mathlib.Core.Bool.{true}
 use mathlib.Core.List.{List, _++_}
-use Prim.Native.Nat.{ℕ, zero, suc, _+_, _-_, _*_, _/_, _%_, _^_, _≤_, _<_}
+use Prim.Native.Nat.{ℕ, zero, suc, _+_, _-_, _*_, _/_, _%_, _≤_, _<_}
 use native.Mathlib.Omega.{arith}
 use lib.ListN.{length, getD, List·getD-append}
 use native.Mathlib.Nat.{suc-mul, add-mul}
 use lib.Arith.{digits-div, digits-mod}
 use Rattle.words.specs.Bytes.{part, bytes, put}
 use Rattle.words.specs.Lanes.{laneBytes}
-use Rattle.words.proofs.Lists.{tabulate-same, put-before, put-in}
+use Rattle.words.proofs.Lists.{tabulate-same}
+use Rattle.words.proofs.Parts.{put-before, put-in}
 use Rattle.words.proofs.Concat.{part-at, part-part, place-fits, place-part}
 use Rattle.words.proofs.LaneBytes.{laneBytes-length, laneBytes-at, lane-is}
 use Rattle.words.specs.Bits.{bitOf}

@@ -9,7 +9,8 @@ use lib.ListN.{length, getD}
 use Rattle.words.specs.Xor.{xorEach}
 use Rattle.words.proofs.Below.{below}
 use Rattle.words.proofs.Xor.{and-bit}
-use Rattle.words.proofs.Lists.{Added, added-all, xorEach-cong}
+use Rattle.words.proofs.Lists.{xorEach-cong}
+use Rattle.words.proofs.Progress.{Added, added-all}
 use Rattle.tree.specs.Sides.{Sides}
 
 -- word i of u under the mask of its lane

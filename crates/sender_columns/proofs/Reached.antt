@@ -15,7 +15,8 @@ use Rattle.words.specs.Lanes.{laneBytes}
 use Rattle.words.specs.Xor.{xorEach, xorPart, sumTo}
 use Rattle.words.proofs.Xor.{bit-lt, xor-assoc}
 use Rattle.words.proofs.Numbers.{bytes-zero, bytes-xor, bytes-scale}
-use Rattle.words.proofs.Lists.{tabulate-length, tabulate-at, xorEach-length, xorEach-at, xorPart-length, xorPart-before, xorPart-in, xorPart-after}
+use Rattle.words.proofs.Lists.{tabulate-length, tabulate-at, xorEach-length, xorEach-at}
+use Rattle.words.proofs.Parts.{xorPart-length, xorPart-before, xorPart-in, xorPart-after}
 use Rattle.words.proofs.Concat.{place-fits, part-at}
 use Rattle.words.proofs.Sums.{sumTo-same}
 use Rattle.words.proofs.LaneBytes.{laneBytes-at, lane-is}

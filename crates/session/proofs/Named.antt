@@ -1,5 +1,5 @@
 -- When a step is done: every condition holds, and each range has the length that is named. Assumes nothing.
-use mathlib.Core.Path.{_≡_, sym, ap, _∙_}
+use mathlib.Core.Path.{_≡_, _∙_}
 use mathlib.Core.Bool.{Bool, true}
 use Prim.Native.Nat.{ℕ, _-_, _*_, _≤_}
 use borrow.Author.Tests.{eq-eqb, le-leb}

@@ -1,10 +1,9 @@
 -- Which answer the conditions of a step give, and what a step that is done tells of them. Assumes nothing.
-use mathlib.Core.Path.{_≡_, refl, sym, ap, _∙_}
+use mathlib.Core.Path.{_≡_, refl, ap}
 use mathlib.Core.Bool.{Bool, true, false}
 use Prim.Native.Nat.{ℕ, _-_, _*_, _≤_}
 use native.Mathlib.Omega.{arith}
 use borrow.Author.Tests.{eqb-true, leb-true}
-use Rattle.answer.specs.declared.Answer.{Answer}
 use Rattle.answer.specs.declared.Answer.the-variants.{Done, Width, Stage, Batch, Blocks, Length}
 use Rattle.answer.specs.Answer.{both}
 use Rattle.answer.proofs.Laws.{both-of, done-of, width-refuses, length-refuses}

@@ -200,3 +200,12 @@ pads-enough k =
     let e : treesOf k * (64 * k) ≡ 64 * (128 / k * k) =
     ap (λ (x : ℕ). 128 / k * x) (mul-comm 64 k) ∙ sym (mul-assoc (128 / k) k 64) ∙ mul-comm (128 / k * k) 64 in
     omega (arith, div-mul-le-self 128 k)
+
+-- the nodes beside the paths, all trees' together
+pub besidePaths-length : (k : ℕ) (delta roots : List ℕ) → length (besidePaths k delta roots) ≡ treesOf k * (32 * k)
+unfolding besidePaths
+besidePaths-length k delta roots =
+    concat-length _ (32 * k) (treesOf k)
+    (λ i h.
+    concat-length (siblingNode k (rootOf roots i) (deltaOf k delta i)) 32 k (λ l h. sibling-length k (rootOf roots i) (deltaOf k delta i) l)
+    ∙ mul-comm k 32)

@@ -14,7 +14,8 @@ use Rattle.words.specs.Bytes.{bytes, tabulate, part, concat}
 use Rattle.words.specs.Lanes.{laneBytes}
 use Rattle.words.specs.Xor.{xorEach, xorPart, sumTo}
 use Rattle.words.proofs.Numbers.{bytes-zero}
-use Rattle.words.proofs.Lists.{tabulate-length, tabulate-at, tabulate-same, xorPart-length, part-added}
+use Rattle.words.proofs.Lists.{tabulate-length, tabulate-at, tabulate-same}
+use Rattle.words.proofs.Parts.{xorPart-length, part-added}
 use Rattle.words.proofs.Concat.{place-fits, part-at, part-length, place-part, concat-same, concat-length, concat-part, concat-at}
 use Rattle.words.proofs.Sums.{sumTo-same}
 use Rattle.words.proofs.LaneBytes.{laneBytes-length, laneBytes-at, lane-added-in, lane-added-before, lane-added-after}

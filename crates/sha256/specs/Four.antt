@@ -1,6 +1,6 @@
 -- Four messages of 32 bytes, one after the other, and their digests; and how they stand side by side: word w of lane l at 4w + l.
 -- Assumes nothing.
-use Prim.Native.Nat.{ℕ, _+_, _*_, _/_, _%_}
+use Prim.Native.Nat.{ℕ, _*_}
 use mathlib.Core.List.{List, [], _∷_}
 use lib.ListN.{getD}
 use Rattle.words.specs.Bytes.{part, concat}

@@ -1,5 +1,5 @@
 -- Demand 2 holds: of two honest sides every step is done, and their rows and pads agree. Assumes nothing.
-use mathlib.Core.Path.{_≡_, refl, sym, ap, ap₂, _∙_, subst}
+use mathlib.Core.Path.{_≡_, sym, ap, ap₂, _∙_, subst}
 use mathlib.Core.Bool.{Bool, true, false}
 use mathlib.Core.Logic.{_⊎_, inl, inr}
 use mathlib.Core.List.{List, _++_}
@@ -14,14 +14,12 @@ use Rattle.words.specs.Bits.{bitAt}
 use Rattle.words.specs.Xor.{xorList, scale}
 use Rattle.words.proofs.Xor.{digit, bit-lt}
 use Rattle.words.proofs.Lists.{xorEach-cancel, xorEach-zero, zeros-at, scale-zero, scale-one}
-use Rattle.words.proofs.Concat.{concat-length, concat-part, part-part}
+use Rattle.words.proofs.Concat.{concat-part, part-part}
 use Rattle.answer.specs.declared.Answer.{Answer}
 use Rattle.answer.specs.declared.Answer.the-variants.{Done, Check}
 use Rattle.answer.specs.Answer.{unless, whenDone, widthAllowed}
 use Rattle.answer.proofs.Laws.{both-yes}
-use Rattle.tree.specs.Layout.{columns, treesOf, rootOf, deltaOf, columnLength}
-use Rattle.tree.specs.Path.{siblingNode}
-use Rattle.tree.proofs.Path.{sibling-length}
+use Rattle.tree.specs.Layout.{columns, treesOf, columnLength}
 use Rattle.tree.proofs.Widths.{Fits, width-fits}
 use Rattle.setup.specs.Setup.{senderBasePads, besidePaths, ReceiverSetup, SenderSetup}
 use Rattle.columns.specs.Columns.{choicesOf, receiverTable, correctionOf, senderTable}
@@ -38,9 +36,10 @@ use Rattle.theorems.specs.Demand2.{Ready, HonestBatch, ended, Demand2}
 use Rattle.theorems.specs.Demand3.{Run, Accepts, Closes}
 use Rattle.theorems.proofs.Setup.{siblings-are, both-done}
 use Rattle.theorems.proofs.Batch.{honest-rows}
-use Rattle.theorems.proofs.Small.{correctionOf-bytes}
+use Rattle.columns.proofs.Bounds.{correctionOf-bytes}
 use Rattle.theorems.proofs.NoErrors.{all-meet}
 use Rattle.theorems.proofs.Verdict.{demand3}
+use Rattle.setup.proofs.Honest.{besidePaths-length}
 
 -- ---- pads
 
@@ -114,14 +113,6 @@ ended-is : (r : Record) (width batch blocks : ℕ) → Opened r width batch bloc
 ended-is r width batch blocks opened =
     ap₂ (λ (w l : ℕ). record { width = w; last = l; blocks = 0; stage = stageReady }) (opened .wide) (opened .last-is)
 
-beside-length : (k : ℕ) (delta roots : List ℕ) → length (besidePaths k delta roots) ≡ treesOf k * (32 * k)
-unfolding besidePaths
-beside-length k delta roots =
-    concat-length _ (32 * k) (treesOf k)
-    (λ i h.
-    concat-length (siblingNode k (rootOf roots i) (deltaOf k delta i)) 32 k (λ l h. sibling-length k (rootOf roots i) (deltaOf k delta i) l)
-    ∙ mul-comm k 32)
-
 -- ---- an honest batch
 
 module _ (h : HonestBatch) where
@@ -173,7 +164,7 @@ module _ (h : HonestBatch) where
       let wide = h .sender-ready .wide in
       h .sender-correct .answered
       ∙ may-open (h .q) k (h .batch) (h .blocks) _ (h .sender-ready) (h .width-allowed) (h .sender-next) (h .some-blocks) (h .few-blocks)
-      (correct-named (h .q .width) len _ _ _ _ (ap length siblings-is ∙ beside-length k (h .delta) (h .roots) ∙ width .single) (h .delta-length)
+      (correct-named (h .q .width) len _ _ _ _ (ap length siblings-is ∙ besidePaths-length k (h .delta) (h .roots) ∙ width .single) (h .delta-length)
       (ap length correction-is ∙ correctionOf-length k (h .batch) len (h .roots) ∙ ap (λ (w : ℕ). (treesOf w - 1) * len) (sym wide)) (h .w-length))
 
   w-is : h .w′ ≡ senderTable k (h .batch) len (besidePaths k (h .delta) (h .roots)) (h .delta) (correctionOf k (h .batch) len (h .roots))

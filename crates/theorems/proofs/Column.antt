@@ -1,13 +1,13 @@
 -- The check in one column, whatever correction and check message reach the sender. Assumes nothing.
-use mathlib.Core.Path.{_≡_, refl, sym, ap, ap₂, _∙_}
+use mathlib.Core.Path.{_≡_, sym, ap, ap₂, _∙_}
 use mathlib.Core.Logic.{_↔_}
 use mathlib.Core.List.{List}
-use Prim.Native.Nat.{ℕ, zero, suc, _+_, _-_, _*_, _/_, _%_, _<_}
+use Prim.Native.Nat.{ℕ, zero, suc, _-_, _*_, _/_, _%_, _<_}
 use native.Mathlib.Nat.{zero-lt-suc}
 use native.Mathlib.Omega.{arith}
-use lib.Bits.{bitXor, xor-comm, xor-zero-r, xor-self}
-use lib.ListN.{length, getD, replicate, length-replicate}
-use Rattle.words.specs.Bytes.{Bytes, part}
+use lib.Bits.{bitXor, xor-comm, xor-self}
+use lib.ListN.{length, getD, length-replicate}
+use Rattle.words.specs.Bytes.{Bytes}
 use Rattle.words.specs.Bits.{bitOf, bitAt}
 use Rattle.words.specs.Xor.{xorList, scale}
 use Rattle.words.proofs.Xor.{bit-lt, xor-assoc, xor-cancel, xor-zero-eq, scale-xor}
@@ -17,15 +17,15 @@ use Rattle.gf64.specs.Field.{foldBytes}
 use Rattle.gf64.specs.Check.{columnSide, choiceSide}
 use Rattle.gf64.proofs.Bytes.{foldBytes-xor, foldBytes-scale}
 use Rattle.tree.specs.Tree.{streamByte}
-use Rattle.tree.specs.Layout.{columns, treesOf, rootOf, deltaOf, treePart, columnOf}
+use Rattle.tree.specs.Layout.{columns, treesOf, deltaOf, treePart, columnOf}
 use Rattle.setup.specs.Setup.{besidePaths}
-use Rattle.columns.specs.Columns.{uOf, choicesOf, receiverTable, correctionOf, treeCorrection, besideAt, senderColumn, senderTable}
+use Rattle.columns.specs.Columns.{treeCorrection, besideAt, senderColumn, senderTable}
 use Rattle.columns.proofs.Tables.{uOf-length, receiverColumn-length, senderColumn-length, correctionOf-length, correction-part, column-tree, receiver-table, sender-table}
 use Rattle.columns.proofs.Honest.{delta-bit}
 use Rattle.consistency.specs.Message.{sentChoice, sentColumn}
 use Rattle.theorems.specs.Errors.{Sent, lengthOf, honestChoices, honestColumn, honestCorrection, treeError, choiceError, columnError, foldedError}
 use Rattle.theorems.proofs.Batch.{honest-columns}
-use Rattle.theorems.proofs.Small.{uOf-bytes, receiverColumn-bytes, nextCorrection-bytes}
+use Rattle.columns.proofs.Bounds.{uOf-bytes, receiverColumn-bytes, nextCorrection-bytes}
 
 -- ---- sums
 

@@ -1,7 +1,7 @@
 -- Where the honest correction and check message reach the sender, there is no error. Assumes nothing.
 use mathlib.Core.Path.{_≡_, refl, sym, ap, ap₂, _∙_}
 use mathlib.Core.List.{List}
-use Prim.Native.Nat.{ℕ, zero, suc, _+_, _*_, _/_, _^_, _<_}
+use Prim.Native.Nat.{ℕ, zero, suc, _*_, _/_, _^_, _<_}
 use native.Mathlib.Nat.{zero-lt-suc, mul-zero}
 use lib.Bits.{bitXor, xor-self}
 use Rattle.words.specs.Bytes.{Bytes, part}
@@ -16,7 +16,7 @@ use Rattle.consistency.specs.Message.{checkMessage, sentChoice, sentColumn}
 use Rattle.consistency.proofs.Laws.{sent-choice, sent-column}
 use Rattle.theorems.specs.Errors.{Sent, lengthOf, honestChoices, honestColumn, honestCorrection, treeError, choiceError, columnError}
 use Rattle.theorems.specs.Demand3.{ErrorsMeet, EveryColumn}
-use Rattle.theorems.proofs.Small.{uOf-bytes, receiverTable-bytes, correctionOf-bytes}
+use Rattle.columns.proofs.Bounds.{uOf-bytes, receiverTable-bytes, correctionOf-bytes}
 
 module _ (s : Sent) (fits : s .key < 2 ^ 64)
     (honest : s .correction ≡ honestCorrection s)

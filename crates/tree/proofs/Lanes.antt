@@ -1,7 +1,7 @@
 -- Four trees side by side: the children of four nodes, and what a walk adds to their totals. Assumes nothing.
 use mathlib.Core.Path.{_≡_, sym, ap, ap₂, _∙_}
 use mathlib.Core.List.{List}
-use Prim.Native.Nat.{ℕ, zero, suc, _+_, _-_, _*_, _/_, _%_, _≤_, _<_}
+use Prim.Native.Nat.{ℕ, suc, _+_, _-_, _*_, _/_, _%_, _≤_, _<_}
 use native.Mathlib.Nat.{zero-add, div-eq-of-lt, mod-eq-of-lt}
 use native.Mathlib.Omega.{arith}
 use native.Mathlib.Decide.{decLt}
@@ -12,7 +12,8 @@ use Rattle.words.specs.Bytes.{bytes, part}
 use Rattle.words.specs.Lanes.{laneBytes}
 use Rattle.words.specs.Xor.{xorEach, xorPart}
 use Rattle.words.proofs.Xor.{xor-assoc}
-use Rattle.words.proofs.Lists.{xorEach-is, xorPart-length, xorPart-before, xorPart-in, xorPart-after}
+use Rattle.words.proofs.Lists.{xorEach-is}
+use Rattle.words.proofs.Parts.{xorPart-length, xorPart-before, xorPart-in, xorPart-after}
 use Rattle.words.proofs.Concat.{part-at, part-length}
 use Rattle.words.proofs.Lanes.{laned-at}
 use Rattle.words.proofs.LaneBytes.{laneBytes-length, laneBytes-at, lane-is}

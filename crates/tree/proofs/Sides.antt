@@ -2,13 +2,11 @@
 use mathlib.Core.Path.{_≡_, refl, sym, ap, _∙_}
 use mathlib.Core.List.{List}
 use mathlib.Core.Bool.{true}
-use Prim.Native.Nat.{ℕ, _+_, _-_, _*_, _/_, _%_, _^_, _≤_, _<_}
-use native.Mathlib.Nat.{zero-mul, one-mul}
+use Prim.Native.Nat.{ℕ, _+_, _-_, _*_, _/_, _%_, _≤_, _<_}
 use native.Mathlib.Omega.{arith}
-use lib.Bits.{bitXor, bitAnd, xor-lt, xor-zero-r}
 use lib.ListN.{length, getD}
 use Rattle.words.specs.Bits.{bitAt}
-use Rattle.words.proofs.Xor.{digit, bit-lt, xor-cancel, and-bit}
+use Rattle.words.proofs.Xor.{bit-lt}
 use Rattle.words.proofs.Sums.{ofBits-bit}
 use Rattle.words.proofs.Lists.{tabulate-length, tabulate-at, tabulate-lt}
 use Rattle.answer.specs.Answer.{widthAllowed}

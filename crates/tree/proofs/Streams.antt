@@ -8,7 +8,7 @@ use lib.ListN.{getD}
 use Rattle.words.specs.Bytes.{bytes}
 use Rattle.words.specs.Bits.{bitOf}
 use Rattle.words.proofs.Xor.{bit-lt}
-use Rattle.words.proofs.Numbers.{bytes-scale}
+use Rattle.words.proofs.Numbers.{bytes-scale, bytes-lt}
 use Rattle.chacha20.specs.ChaCha.{blockWords}
 use Rattle.chacha20.specs.Nonce.{nonceOf}
 use Rattle.chacha20.specs.Lanes.{keyIn}
@@ -27,6 +27,9 @@ stream-byte batch x leaf =
     block-byte leaf (x / 64) (nonceOf 1 batch) (x % 64) (omega arith)
     ∙ ap₂ (λ (c w : ℕ). getD (bytes 4 (getD (blockWords leaf c (nonceOf 1 batch)) w 0)) (x % 64 % 4) 0) block word
     ∙ ap (λ (b : ℕ). getD (bytes 4 (streamWord batch (x / 4) leaf)) b 0) byte
+
+pub stream-lt : (batch x : ℕ) (leaf : List ℕ) → streamByte batch x leaf < 256
+stream-lt batch x leaf = rw (stream-byte batch x leaf) (bytes-lt 4 (streamWord batch (x / 4) leaf) (x % 4))
 
 -- byte x of the sum of the streams below the node in lane l
 pub u-lane : (batch levels : ℕ) (nodes : List ℕ) (l x : ℕ) → l < 4

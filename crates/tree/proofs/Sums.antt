@@ -4,7 +4,7 @@ use mathlib.Core.List.{List}
 use Prim.Native.Nat.{ℕ, zero, suc, _+_, _*_, _/_, _^_, _<_}
 use native.Mathlib.Nat.{zero-mul, one-mul, mul-comm, mul-assoc, add-mul, mod-lt, pow-suc, pow-succ', div-add-mod', div-div-eq-div-mul, div-one}
 use native.Mathlib.Omega.{arith}
-use lib.Bits.{bitXor, xor-comm, xor-shifted}
+use lib.Bits.{bitXor, xor-comm, xor-shifted, xor-lt}
 use lib.ListN.{length, getD, drop, length-drop}
 use lib.Pow.{pow-pos}
 use lib.Seq.{getD-take, getD-drop, length-take-le}
@@ -55,6 +55,14 @@ sum-xor (suc l) n y g h =
     ap₂ bitXor (sum-xor l (childOf 0 n) (2 * y) g h) (sum-xor l (childOf 1 n) (2 * y + 1) g h)
     ∙ xor-swap (sumBelow l (childOf 0 n) (2 * y) g) (sumBelow l (childOf 0 n) (2 * y) h)
     (sumBelow l (childOf 1 n) (2 * y + 1) g) (sumBelow l (childOf 1 n) (2 * y + 1) h)
+
+-- a bound of all summands
+pub sum-lt : (w l : ℕ) (n : List ℕ) (y : ℕ) (g : ℕ → List ℕ → ℕ) → ((z : ℕ) (m : List ℕ) → g z m < 2 ^ w) → sumBelow l n y g < 2 ^ w
+unfolding sumBelow
+sum-lt w zero n y g h = h y n
+sum-lt w (suc l) n y g h =
+    xor-lt w (sumBelow l (childOf 0 n) (2 * y) g) (sumBelow l (childOf 1 n) (2 * y + 1) g)
+    (sum-lt w l (childOf 0 n) (2 * y) g h) (sum-lt w l (childOf 1 n) (2 * y + 1) g h)
 
 -- what goes through one ⊕ goes through a sum
 pub sum-map : (h : ℕ → ℕ) → ((a b : ℕ) → h (bitXor a b) ≡ bitXor (h a) (h b)) → (l : ℕ) (n : List ℕ) (y : ℕ) (g : ℕ → List ℕ → ℕ)

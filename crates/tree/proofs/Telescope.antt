@@ -12,7 +12,8 @@ use Rattle.words.specs.Bits.{bitOf}
 use Rattle.words.specs.Xor.{xorEach, xorPart}
 use Rattle.words.proofs.Xor.{xor-assoc, xor-around}
 use Rattle.words.proofs.Sums.{zero-bit, power-bit, power-other}
-use Rattle.words.proofs.Lists.{xorEach-length, xorEach-at, xorEach-is, xorEach-cong, xorEach-zero, xorEach-twice, xorPart-length, xorPart-before, xorPart-in, xorPart-after}
+use Rattle.words.proofs.Lists.{xorEach-length, xorEach-at, xorEach-is, xorEach-cong, xorEach-zero, xorEach-twice}
+use Rattle.words.proofs.Parts.{xorPart-length, xorPart-before, xorPart-in, xorPart-after}
 use Rattle.chacha20.specs.ChaCha.{blockWords}
 use Rattle.chacha20.specs.Nonce.{nonceOf}
 use Rattle.chacha20.specs.Lanes.{keyIn, blocksOf}

@@ -3,7 +3,7 @@ use Prim.Native.Nat.{ℕ, _≤_, _-_}
 use native.Mathlib.Omega.{arith}
 use lib.ListN.{length, getD}
 use Rattle.words.specs.Word32.{add32}
-use Rattle.words.proofs.Lists.{Updated, updated-none, updated-one, updated-all}
+use Rattle.words.proofs.Progress.{Updated, updated-none, updated-one, updated-all}
 use Rattle.chacha20.specs.ChaCha.{addWords}
 use Rattle.chacha20.proofs.Laws.{addWords-length, addWords-at}
 use borrow.Author.Needs.{needs}

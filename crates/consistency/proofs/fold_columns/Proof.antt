@@ -12,7 +12,7 @@ use Rattle.words.proofs.Concat.{concat-grow, concat-length}
 use Rattle.gf64.specs.Field.{foldBytes}
 use Rattle.gf64.specs.Table.{tableOf}
 use Rattle.tree.specs.Layout.{columnOf}
-use Rattle.words.proofs.Lists.{kept-length}
+use Rattle.words.proofs.Parts.{kept-length}
 use Rattle.consistency.proofs.Folds.{four-folds}
 use Rattle.consistency.proofs.fold_columns.Statement.{statement}
 use Rattle.consistency.proofs.fold_columns.Tie as tie

@@ -5,7 +5,7 @@ use native.Mathlib.Omega.{arith}
 use borrow.Author.Needs.{needs}
 use Rattle.words.specs.Bytes.{bytes, put}
 use Rattle.consistency.specs.Message.{checkMessage}
-use Rattle.words.proofs.Lists.{after-front}
+use Rattle.words.proofs.Parts.{after-front}
 use Rattle.consistency.proofs.write_message.Statement.{statement}
 use Rattle.consistency.proofs.write_message.Tie as tie
 

@@ -1,7 +1,7 @@
 -- `host::softspoken_sender_correct` meets its contract: a walk of its MIR, by hand. The record's borrow is opened and the record copied; `numbered::sender_correct` is called, and every parameter but the record goes to it whole; the record that it returned is stored, and the borrow closed (`Thin.antt`).
 -- All that the proof knows of `numbered::sender_correct` is that it meets its contract.
 -- Assumes nothing.
-use Rattle.host.proofs.Thin.{_≡_, refl, ap, ℕ, _<_, _^_, [], _∷_, List, length, URA, fullShare, named, w32, w64, Val, vint, vptr, SProp, ent, sep, emp, via, fst∗, id⊢, Lft, Share, GName, fsep, fat, flft, fobs, fbor, Memory, Routine, Heap, Calls, Loops, WpFn, Tables, Atoms, sem, Fun, fact, givenOf, tables, tablesOf, Lfts, Shares, Given, ‵, raw, some, later, _⊛_, ⋆, _$_, _∵_, !, qed, by, move, drop, use1, use2, split, join, pick, rewrite, fsplit, fsplit3, fjoin, fjoin3, feqI, suffices, frame, await, done, look, look-raw, init, store-raw, forget, stop, hop, fld, from, load, addr, of-opd, and-then, no-more, assigns, land, returns, enter, alloc1, alloc0, params1, pass1, pass0, free1, free0, agg, whole, sub, look-in, Body, FmC, fmOf, WpFn-mono, RattleType, Denots, Valss, owns, mem, Is, shows, uint-vals, uint-tells, uint-lawful, u8, u32, RefT, MutRef, ptr-vals, mut-tells, sliceVal, Room, slice-vals, shr-slice-tells, mut-slice-tells, only, opens, closes, owned, peeks, heard, spelt, plain, typesAt, alive, onEntry, Meets, tripleOf, Contract, Triple, calls-at, ensured, Lasts, lasts, entered, cited, says, Stays, stay-ref, walkOf, goes-ref, Walks, ends-at, walked, walk-meets, after, all-said, all-fit, all-go, rv, fields, asked, left-with}
+use Rattle.host.proofs.Thin.{refl, ap, ℕ, _<_, _^_, [], _∷_, List, length, URA, fullShare, named, w32, Val, vint, vptr, SProp, ent, emp, via, fst∗, id⊢, Lft, Share, GName, fsep, fat, flft, fobs, fbor, Memory, Routine, Heap, Calls, Loops, WpFn, Tables, Atoms, Fun, fact, givenOf, tables, tablesOf, Lfts, Shares, Given, ‵, raw, some, later, _⊛_, ⋆, _$_, _∵_, !, qed, by, move, drop, use1, use2, split, pick, rewrite, fsplit, fsplit3, suffices, await, look, look-raw, init, store-raw, forget, stop, hop, fld, from, load, addr, of-opd, and-then, no-more, assigns, land, returns, enter, alloc1, alloc0, params1, pass1, pass0, free1, free0, agg, whole, sub, look-in, Body, FmC, fmOf, WpFn-mono, RattleType, Denots, Valss, owns, mem, Is, shows, uint-vals, uint-tells, uint-lawful, u8, u32, RefT, MutRef, ptr-vals, mut-tells, sliceVal, Room, slice-vals, shr-slice-tells, mut-slice-tells, only, opens, closes, owned, peeks, heard, spelt, plain, typesAt, alive, onEntry, Meets, tripleOf, Contract, Triple, calls-at, ensured, Lasts, lasts, entered, cited, says, Stays, stay-ref, walkOf, goes-ref, Walks, ends-at, walked, walk-meets, after, all-said, all-fit, all-go, rv, fields, asked, left-with}
 use denote.Triple.Walked.{hasOf}
 use denote.Struct.Laws as LL
 use Rattle.answer.specs.Answer.{Numbered}

@@ -4,7 +4,7 @@ use mathlib.Core.List.{List}
 use Prim.Native.Nat.{ℕ, _+_, _*_}
 use borrow.Author.Needs.{needs}
 use Rattle.words.specs.Bytes.{part, put, concat}
-use Rattle.words.proofs.Lists.{put-all}
+use Rattle.words.proofs.Parts.{put-all}
 use Rattle.words.proofs.Concat.{concat-length}
 use Rattle.sha256.specs.Four.{digests}
 use Rattle.pads.specs.Pads.{padOf}

@@ -10,7 +10,8 @@ use Rattle.words.specs.Bytes.{tabulate, part}
 use Rattle.words.specs.Xor.{xorEach, xorPart}
 use Rattle.tree.specs.Lanes.{uWord, columnWord}
 use Rattle.words.proofs.Concat.{place-fits}
-use Rattle.words.proofs.Lists.{part-added, tabulate-lt, xorEach-length, xorEach-cong, xorPart-length}
+use Rattle.words.proofs.Lists.{tabulate-lt, xorEach-length, xorEach-cong}
+use Rattle.words.proofs.Parts.{part-added, xorPart-length}
 use Rattle.sender_columns.proofs.Masked.{every-side, every-lane}
 use Rattle.sender_columns.proofs.add_level.Statement.{statement}
 use Rattle.sender_columns.proofs.add_level.Tie as tie

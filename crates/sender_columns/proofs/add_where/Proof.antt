@@ -7,7 +7,7 @@ use native.Mathlib.Omega.{arith}
 use lib.Bits.{bitXor}
 use lib.ListN.{length, getD}
 use borrow.Author.Needs.{needs}
-use Rattle.words.proofs.Lists.{Added, updated-none, updated-four, in-set, in-two, in-three}
+use Rattle.words.proofs.Progress.{Added, updated-none, updated-four, in-set, in-two, in-three}
 use Rattle.sender_columns.proofs.Masked.{masked, masked-at, masked-all}
 use Rattle.sender_columns.proofs.add_where.Statement.{statement}
 use Rattle.sender_columns.proofs.add_where.Tie as tie

@@ -1,13 +1,10 @@
 -- `session::receiver_answer` meets its contract: message and pads are written where the answer is Done, and else all is left. Assumes nothing.
 use mathlib.Core.Path.{_≡_, sym, ap, _∙_}
-use mathlib.Core.Bool.{true}
 use denote.Ref.{now}
 use Prim.Native.Nat.{ℕ, _-_, _*_, _≤_}
-use native.Mathlib.Omega.{arith}
 use lib.ListN.{length}
 use borrow.Author.Needs.{needs}
 use Rattle.answer.specs.declared.Answer.the-variants.{Done}
-use Rattle.answer.specs.Answer.{widthAllowed}
 use Rattle.answer.proofs.Laws.{is-done, not-done}
 use Rattle.tree.specs.Layout.{columns, columnLength}
 use Rattle.consistency.specs.Message.{checkMessage}

@@ -6,7 +6,8 @@ use native.Mathlib.Omega.{arith}
 use lib.ListN.{length}
 use borrow.Author.Needs.{needs}
 use borrow.Rule.Slice.PartMut.{putMid}
-use Rattle.words.proofs.Lists.{part-added, xorPart-length, xorEach-none}
+use Rattle.words.proofs.Lists.{xorEach-none}
+use Rattle.words.proofs.Parts.{part-added, xorPart-length}
 use Rattle.chacha20.specs.Lanes.{blocksOf}
 use Rattle.chacha20.specs.Nonce.{nonceOf}
 use Rattle.tree.proofs.Lanes.{child-in, totals-added}

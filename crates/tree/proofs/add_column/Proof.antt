@@ -2,7 +2,7 @@
 use mathlib.Core.Path.{refl}
 use Prim.Native.Nat.{_*_}
 use lib.ListN.{length}
-use Rattle.words.proofs.Lists.{part-added}
+use Rattle.words.proofs.Parts.{part-added}
 use borrow.Author.Needs.{needs}
 use Rattle.tree.proofs.add_column.Statement.{statement}
 use Rattle.tree.proofs.add_column.Tie as tie

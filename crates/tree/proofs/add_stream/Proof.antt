@@ -5,7 +5,8 @@ use Prim.Native.Nat.{ℕ, _+_, _-_, _*_, _≤_}
 use native.Mathlib.Omega.{arith}
 use lib.ListN.{length, getD}
 use borrow.Author.Needs.{needs}
-use Rattle.words.proofs.Lists.{Added, updated-none, added-part, added-all, part-added}
+use Rattle.words.proofs.Progress.{Added, updated-none, added-all}
+use Rattle.words.proofs.Parts.{added-part, part-added}
 use Rattle.chacha20.specs.Lanes.{blocksOf}
 use Rattle.tree.specs.Lanes.{uWord}
 use Rattle.tree.proofs.Telescope.{stream-word}

@@ -1,6 +1,6 @@
 -- `session::answers::in_order` meets its contract: each answer is the first test that failed. Assumes nothing.
 use mathlib.Core.Path.{_≡_, sym, _∙_}
-use mathlib.Core.Bool.{Bool, true}
+use mathlib.Core.Bool.{true}
 use borrow.Author.Tests.{not-true, not-false}
 use Rattle.answer.specs.declared.Answer.{Answer}
 use Rattle.session.specs.Steps.{inOrder}

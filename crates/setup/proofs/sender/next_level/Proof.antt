@@ -4,11 +4,12 @@ use mathlib.Core.Path.{_≡_, refl, ap, _∙_}
 use mathlib.Core.List.{List}
 use Prim.Native.Nat.{ℕ, _+_, _-_, _*_, _%_, _≤_, _<_}
 use native.Mathlib.Omega.{arith}
-use lib.ListN.{length, getD, take}
+use lib.ListN.{length, getD}
 use borrow.Rule.Slice.PartMut.{putMid, mid-len}
 use Rattle.words.specs.Bytes.{part}
 use Rattle.setup.proofs.Levels.{Added, totals-back}
-use Rattle.words.proofs.Lists.{tabulate-at, tabulate-lt, xorEach-cong, part-added}
+use Rattle.words.proofs.Lists.{tabulate-at, tabulate-lt, xorEach-cong}
+use Rattle.words.proofs.Parts.{part-added}
 use Rattle.words.proofs.Concat.{part-at, part-length}
 use borrow.Author.Needs.{needs}
 use Rattle.setup.proofs.sender.next_level.Statement.{statement}

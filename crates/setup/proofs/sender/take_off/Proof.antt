@@ -3,9 +3,10 @@ use mathlib.Core.Path.{ap₂}
 use Prim.Native.Nat.{ℕ, _+_, _-_, _*_, _%_, _≤_}
 use native.Mathlib.Omega.{arith}
 use lib.Bits.{bitXor}
-use lib.ListN.{getD, take}
+use lib.ListN.{getD}
 use borrow.Author.Needs.{needs}
-use Rattle.words.proofs.Lists.{Updated, updated-none, updated-one, updated-all, xorEach-length, xorEach-at}
+use Rattle.words.proofs.Lists.{xorEach-length, xorEach-at}
+use Rattle.words.proofs.Progress.{Updated, updated-none, updated-one, updated-all}
 use Rattle.words.specs.Xor.{xorEach}
 use Rattle.setup.proofs.Chosen.{chosen}
 use Rattle.setup.proofs.sender.take_off.Statement.{statement}

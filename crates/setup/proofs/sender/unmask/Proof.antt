@@ -6,7 +6,8 @@ use lib.Bits.{bitXor}
 use lib.ListN.{getD}
 use borrow.Author.Needs.{needs}
 use Rattle.words.specs.Bytes.{tabulate}
-use Rattle.words.proofs.Lists.{Updated, updated-none, updated-one, updated-all, tabulate-length, tabulate-at}
+use Rattle.words.proofs.Lists.{tabulate-length, tabulate-at}
+use Rattle.words.proofs.Progress.{Updated, updated-none, updated-one, updated-all}
 use Rattle.setup.proofs.Chosen.{chosen}
 use Rattle.setup.proofs.sender.unmask.Statement.{statement}
 use Rattle.setup.proofs.sender.unmask.Tie as tie

@@ -5,7 +5,7 @@ use native.Mathlib.Omega.{arith}
 use lib.ListN.{length, getD, take}
 use borrow.Rule.Slice.PartMut.{mid-len}
 use lib.Seq.{take-all}
-use Rattle.words.specs.Bytes.{tabulate, concat}
+use Rattle.words.specs.Bytes.{concat}
 use Rattle.words.proofs.Lists.{tabulate-length}
 use Rattle.words.proofs.Concat.{part-length, concat-one, concat-grow}
 use Rattle.setup.specs.Setup.{unmasked}
