@@ -94,8 +94,9 @@ fn pair_pads(pads0: &[u8], pads1: &[u8], pairs: &mut [u8])
         let next = i + 1;
         let start = i * 32;
         let end = next * 32;
-        words::copy_part(pairs, 2 * start, &pads0[start..end]);
-        words::copy_part(pairs, start + end, &pads1[start..end]);
+        let at = i * 64;
+        words::copy_part(pairs, at, &pads0[start..end]);
+        words::copy_part(pairs, at + 32, &pads1[start..end]);
         i = next;
     }
 }
