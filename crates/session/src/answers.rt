@@ -3,12 +3,13 @@ use crate::Record;
 use answer::Answer;
 ghost use mathlib.Core.Path.{_≡_};
 ghost use mathlib.Core.Bool.{true};
-ghost use Prim.Native.Nat.{_≤_, _<_};
+ghost use mathlib.Core.List.{[], _∷_};
+ghost use Prim.Native.Nat.{_-_, _*_, _≤_, _<_};
 ghost use lib.Dec.{eqb, ltb};
 ghost use lib.ListN.{getD};
 ghost use Rattle.answer.specs.Answer.{both, widthAllowed};
-ghost use Rattle.tree.specs.Layout.{treesOf, columnLength};
-ghost use Rattle.session.specs.Steps.{blocksAllowed, inOrder, openAnswer, endAnswer, startLengths, correctLengths, answerLengths};
+ghost use Rattle.tree.specs.Layout.{columns, treesOf, columnLength};
+ghost use Rattle.session.specs.Steps.{blocksAllowed, inOrder, openAnswer, endAnswer, startLengths, correctLengths, answerLengths, verifyLengths};
 
 // The first condition that doesn't hold.
 fn in_order(width: bool, stage: bool, batch: bool, blocks: bool, lengths: bool) -> Answer
@@ -105,6 +106,15 @@ fn trees(width: u32) -> usize
     }
 }
 
+// The lengths of a batch's ranges: the roots, a column, a table, the correction. (For a width that isn't allowed they don't count.)
+fn batch_lengths(width: u32, blocks: u32) -> [usize; 4]
+    ensures { λ r. ⌜ (widthAllowed width ≡ true → r ≡ 32 * treesOf width ∷ columnLength blocks ∷ columns * columnLength blocks ∷ (treesOf width - 1) * columnLength blocks ∷ []) ⌝ }
+{
+    let n = trees(width);
+    let len = 8 * (blocks as usize + 1);
+    [32 * n, len, 128 * len, (n - 1) * len]
+}
+
 // The answer of the receiver's start.
 pub fn start_answer(
     r: Record,
@@ -117,12 +127,8 @@ pub fn start_answer(
 ) -> Answer
     ensures { λ x. ⌜ x ≡ openAnswer r batch blocks (startLengths (r .width) (columnLength blocks) roots choices table correction) ⌝ }
 {
-    let n = trees(r.width);
-    let len = 8 * (blocks as usize + 1);
-    let lengths = lengths_are(
-        [roots, choices, table, correction],
-        [32 * n, len, 128 * len, (n - 1) * len],
-    );
+    let named = batch_lengths(r.width, blocks);
+    let lengths = lengths_are([roots, choices, table, correction], named);
     open_answer(r, batch, blocks, lengths)
 }
 
@@ -138,11 +144,10 @@ pub fn correct_answer(
 ) -> Answer
     ensures { λ x. ⌜ x ≡ openAnswer r batch blocks (correctLengths (r .width) (columnLength blocks) siblings delta correction table) ⌝ }
 {
-    let n = trees(r.width);
-    let len = 8 * (blocks as usize + 1);
+    let named = batch_lengths(r.width, blocks);
     let lengths = lengths_are(
         [siblings, delta, correction, table],
-        [4096, 16, (n - 1) * len, 128 * len],
+        [4096, 16, named[3], named[2]],
     );
     open_answer(r, batch, blocks, lengths)
 }
@@ -156,6 +161,19 @@ pub fn answer_answer(r: Record, choices: usize, table: usize, message: usize, pa
     let lengths = lengths_are(
         [choices, table, message, pads],
         [len, 128 * len, 1032, 2048 * blocks],
+    );
+    end_answer(r, lengths)
+}
+
+// The answer of the sender's verify, before its check.
+pub fn verify_answer(r: Record, table: usize, delta: usize, message: usize, pads: usize) -> Answer
+    ensures { λ x. ⌜ x ≡ endAnswer r (verifyLengths (r .blocks) table delta message pads) ⌝ }
+{
+    let blocks = r.blocks as usize;
+    let len = 8 * (blocks + 1);
+    let lengths = lengths_are(
+        [table, delta, message, pads],
+        [128 * len, 16, 1032, 4096 * blocks],
     );
     end_answer(r, lengths)
 }

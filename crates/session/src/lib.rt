@@ -3,7 +3,7 @@ mod answers;
 
 use answer::Answer;
 ghost use mathlib.Core.Path.{_≡_};
-ghost use Rattle.session.specs.Steps.{newRecord, withBatch, withoutBatch, OpenSession, ReceiverStart, SenderCorrect, ReceiverAnswer};
+ghost use Rattle.session.specs.Steps.{newRecord, withBatch, withoutBatch, closed, OpenSession, ReceiverStart, SenderCorrect, ReceiverAnswer};
 
 // The record of a session: its width, the last batch number (0 for none), the blocks of the open batch, and the stage (0 ready, 1 open,
 // 2 closed). It may hold any numbers.
@@ -54,6 +54,18 @@ fn ended(r: Record) -> Record
         last: r.last,
         blocks: 0,
         stage: 0,
+    }
+}
+
+// And of a session whose check failed.
+fn closed(r: Record) -> Record
+    ensures { λ x. ⌜ x ≡ closed r ⌝ }
+{
+    Record {
+        width: r.width,
+        last: r.last,
+        blocks: r.blocks,
+        stage: 2,
     }
 }
 
