@@ -41,7 +41,8 @@ either-first a b p = ap (λ (x : Bool). either x b) p
 pub either-next : (a b : Bool) → a ≡ false → either a b ≡ b
 either-next a b p = ap (λ (x : Bool). either x b) p
 
-apart : {P : Type 0} → _≡_ {A = Bool} false true → P
+-- a condition doesn't both fail and hold
+pub apart : {P : Type 0} → _≡_ {A = Bool} false true → P
 apart e = let z : _≡_ {A = ℕ} 0 1 = cc in absurd (omega arith)
 
 -- both of two conditions hold

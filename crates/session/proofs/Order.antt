@@ -1,11 +1,12 @@
 -- Which answer the conditions of a step give, and what a step that is done tells of them. Assumes nothing.
-use mathlib.Core.Path.{_≡_, refl, ap}
+use mathlib.Core.Path.{_≡_, refl, ap, ap₂}
 use mathlib.Core.Bool.{Bool, true, false}
 use Prim.Native.Nat.{ℕ, _-_, _*_, _≤_}
 use native.Mathlib.Omega.{arith}
 use borrow.Author.Tests.{eqb-true, leb-true}
-use Rattle.answer.specs.declared.Answer.the-variants.{Done, Width, Stage, Batch, Blocks, Length}
-use Rattle.answer.specs.Answer.{both}
+use Rattle.answer.specs.declared.Answer.{Answer}
+use Rattle.answer.specs.declared.Answer.the-variants.{Done, Width, Stage, Batch, Blocks, Length, Check}
+use Rattle.answer.specs.Answer.{unless, both, whenDone, whenFailed}
 use Rattle.answer.proofs.Laws.{both-of, done-of, width-refuses, length-refuses}
 use Rattle.tree.specs.Layout.{columns, treesOf, columnLength}
 use Rattle.session.specs.Steps.{inOrder, blocksAllowed, startLengths, correctLengths, answerLengths, verifyLengths}
@@ -52,6 +53,23 @@ pub lengths-count : (w s b p l l′ : Bool) → (w ≡ true → l ≡ l′) → 
 unfolding inOrder
 lengths-count false s b p l l′ e = refl
 lengths-count true s b p l l′ e = ap (inOrder true s b p) (e refl)
+
+-- ---- the check, which comes after the conditions
+
+-- none of them is a failed check
+pub not-failed : {A : Type 0} (w s b p l : Bool) (new old : A) → whenFailed (inOrder w s b p l) new old ≡ old
+unfolding inOrder
+not-failed false s b p l new old = refl
+not-failed true false b p l new old = refl
+not-failed true true false p l new old = refl
+not-failed true true true false l new old = refl
+not-failed true true true true false new old = refl
+not-failed true true true true true new old = refl
+
+-- where they hold the check decides
+pub check-decides : (a : Answer) (accepted decided : Bool) → a ≡ Done → accepted ≡ decided
+    → whenDone a (unless accepted Check Done) a ≡ unless decided Check Done
+check-decides a accepted decided e d = ap₂ (λ (x : Answer) (y : Bool). whenDone x (unless y Check Done) x) e d
 
 -- ---- a step that is done
 

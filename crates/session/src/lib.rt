@@ -3,7 +3,7 @@ mod answers;
 
 use answer::Answer;
 ghost use mathlib.Core.Path.{_≡_};
-ghost use Rattle.session.specs.Steps.{newRecord, withBatch, withoutBatch, closed, OpenSession, ReceiverStart, SenderCorrect, ReceiverAnswer};
+ghost use Rattle.session.specs.Steps.{newRecord, withBatch, withoutBatch, closed, OpenSession, ReceiverStart, SenderCorrect, ReceiverAnswer, SenderVerify};
 
 // The record of a session: its width, the last batch number (0 for none), the blocks of the open batch, and the stage (0 ready, 1 open,
 // 2 closed). It may hold any numbers.
@@ -172,6 +172,36 @@ pub fn receiver_answer(
         pads::receiver_pads(r.last as u64, r.blocks as usize, table, pads);
         let record = ended(r);
         Stepped { answer, record }
+    } else {
+        Stepped { answer, record: r }
+    }
+}
+
+// The sender's verify: the check of the receiver's message under the key that the sender chose, and the sender's pads.
+pub fn sender_verify(
+    r: Record,
+    key: u64,
+    table: &[u8],
+    delta: &[u8],
+    message: &[u8],
+    pads: &mut [u8],
+) -> Stepped
+    ensures { λ x. ⌜ SenderVerify r key (now (table .entry)) (now (delta .entry)) (now (message .entry)) (now (pads .entry)) (x .answer) (x .record) (now (pads .exit)) ⌝ }
+{
+    let answer = answers::verify_answer(r, table.len(), delta.len(), message.len(), pads.len());
+    if let Answer::Done = answer {
+        let len = 8 * (r.blocks as usize + 1);
+        if consistency::accepts(key, table, delta, message, len) {
+            pads::sender_pads(r.last as u64, r.blocks as usize, table, delta, pads);
+            let record = ended(r);
+            Stepped { answer, record }
+        } else {
+            let record = closed(r);
+            Stepped {
+                answer: Answer::Check,
+                record,
+            }
+        }
     } else {
         Stepped { answer, record: r }
     }

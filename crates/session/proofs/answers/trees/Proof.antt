@@ -1,17 +1,13 @@
 -- `session::answers::trees` meets its contract: the quotient where the width is allowed. Assumes nothing.
-use mathlib.Core.Path.{_≡_, refl, sym, _∙_}
-use mathlib.Core.Bool.{Bool, true, false}
+use mathlib.Core.Path.{refl, sym, _∙_}
 use Prim.Native.Nat.{ℕ, _≤_, _<_}
 use native.Mathlib.Omega.{arith}
 use borrow.Author.Needs.{needs}
-use Rattle.answer.proofs.Laws.{width-cases}
+use Rattle.answer.proofs.Laws.{apart, width-cases}
 use Rattle.tree.specs.Layout.{treesOf}
 use Rattle.tree.proofs.Widths.{width-fits}
 use Rattle.session.proofs.answers.trees.Statement.{statement}
 use Rattle.session.proofs.answers.trees.Tie as tie
-
-apart : _≡_ {A = Bool} false true → ⊥
-apart e = let z : _≡_ {A = ℕ} 0 1 = cc in omega arith
 
 width-allowed-requires : tie.Need-width-allowed-requires
 width-allowed-requires c κs = search needs
@@ -32,7 +28,7 @@ returns c = (λ e. refl, omega (arith, fits c), fits c .2)
 returns-2 : tie.Need-returns-2
 returns-2 c =
     let refused = sym (c .before .width-allowed .ensures) ∙ c .if1 .left in
-    (λ e. absurd (apart (sym refused ∙ e)), omega arith, omega arith)
+    (λ e. apart (sym refused ∙ e), omega arith, omega arith)
 
 pub trees-spec : {M : Type 1} → statement M
 trees-spec = tie.close (tie.spec width-allowed-requires div-result returns returns-2)
