@@ -1,8 +1,10 @@
+-- The laws that other crates cite, and the theorems.
 pub mod Cases
 pub mod Setup
 pub mod Batch
 pub mod Column
-pub mod Refusals
-pub mod Verdict
 pub mod NoErrors
-pub mod Agree
+pub mod Demand1
+pub mod Demand3
+pub mod Demand2
+pub mod Ties

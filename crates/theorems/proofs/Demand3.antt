@@ -31,7 +31,7 @@ use Rattle.theorems.specs.Errors.{Sent, lengthOf, columnError, foldedErr
 use Rattle.theorems.specs.Demand3.{Run, SidesEqual, ErrorsMeet, EveryColumn, TreePasses, Accepts, Closes, Demand3}
 use Rattle.theorems.proofs.Setup.{siblings-are}
 use Rattle.theorems.proofs.Column.{column-law}
-use Rattle.theorems.proofs.Refusals.{differ}
+use Rattle.theorems.proofs.Demand1.{differ}
 
 -- ---- the verify's answer
 

@@ -38,7 +38,7 @@ use Rattle.theorems.proofs.Setup.{siblings-are, both-done}
 use Rattle.theorems.proofs.Batch.{honest-rows}
 use Rattle.columns.proofs.Bounds.{correctionOf-bytes}
 use Rattle.theorems.proofs.NoErrors.{all-meet}
-use Rattle.theorems.proofs.Verdict.{demand3}
+use Rattle.theorems.proofs.Demand3.{demand3}
 use Rattle.setup.proofs.Honest.{besidePaths-length}
 
 -- ---- pads
