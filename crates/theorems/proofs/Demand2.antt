@@ -44,7 +44,7 @@ use Rattle.setup.proofs.Honest.{besidePaths-length}
 -- ---- pads
 
 -- the receiver's pad of a row
-own-pad : (blocks batch j : ℕ) (table : List ℕ) → j < 64 * blocks
+pub own-pad : (blocks batch j : ℕ) (table : List ℕ) → j < 64 * blocks
     → part (32 * j) 32 (receiverPads blocks batch table) ≡ padOf batch j (rowOf (columnLength blocks) table j)
 unfolding receiverPads
 own-pad blocks batch j table lt =
@@ -52,7 +52,7 @@ own-pad blocks batch j table lt =
     ∙ concat-part (λ j. padOf batch j (rowOf (columnLength blocks) table j)) 32 (64 * blocks) (λ j h. pad-length batch j _) j lt
 
 -- the sender's pad numbered x of a row: x times delta is added to the row
-given-pad : (blocks batch j x : ℕ) (table delta : List ℕ) → j < 64 * blocks → x < 2
+pub given-pad : (blocks batch j x : ℕ) (table delta : List ℕ) → j < 64 * blocks → x < 2
     → part (64 * j + 32 * x) 32 (senderPads blocks batch table delta) ≡ padOf batch j (xorList (rowOf (columnLength blocks) table j) (scale x delta))
 unfolding senderPads
 given-pad blocks batch j x table delta lt hx =
