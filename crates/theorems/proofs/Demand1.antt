@@ -139,7 +139,7 @@ demand1 (sender-correct {answer = a} p) =
 demand1 (receiver-answer {answer = a} p) =
     unchecked _ a _ _ step-refusals (subst (Among (0 ∷ 1 ∷ 2 ∷ 3 ∷ 4 ∷ 5 ∷ [])) (sym (p .answered)) (in-order-among _ _ _ _ _))
     (λ ne i. session ((p .recorded ∙ left a _ _ ne) i) ((p .told ∙ left a _ _ ne) i ∷ (p .padded ∙ left a _ _ ne) i ∷ []))
-demand1 (sender-verify {r} {r′} {key} {table} {delta} {message} {pads} {pads′} {a} p) = record {
+demand1 (sender-verify {r} {r′} {key} {table} {delta} {message} {pads} {pads′} {answer = a} p) = record {
   ends = subst (Among (0 ∷ 1 ∷ 2 ∷ 3 ∷ 4 ∷ 5 ∷ 6 ∷ [])) (sym (p .answered)) (verdict-among _ _ _ _ _ (accepts (columnLength (r .blocks)) key table delta message));
   kept = λ ne.
       (λ i. session ((p .recorded ∙ left a _ _ ne) i) ((p .padded ∙ left a _ _ ne) i ∷ []))
