@@ -3,6 +3,7 @@ use mathlib.Core.Path.{_≡_, refl, ap, ap₂}
 use mathlib.Core.Bool.{Bool, true, false}
 use Prim.Native.Nat.{ℕ, _-_, _*_, _≤_}
 use native.Mathlib.Omega.{arith}
+use lib.Dec.{eqb}
 use borrow.Author.Tests.{eqb-true, leb-true}
 use Rattle.answer.specs.declared.Answer.{Answer}
 use Rattle.answer.specs.declared.Answer.the-variants.{Done, Width, Stage, Batch, Blocks, Length, Check}
@@ -97,37 +98,35 @@ all-hold w s b p l e =
 pub blocks-fit : (blocks : ℕ) → blocksAllowed blocks ≡ true → (1 ≤ blocks) × (blocks ≤ 15)
 blocks-fit blocks e = let h = both-of _ _ e in (leb-true 1 blocks (h .0), leb-true blocks 15 (h .1))
 
-four-of : (a b c d : Bool) → both a (both b (both c d)) ≡ true → (a ≡ true) × (b ≡ true) × (c ≡ true) × (d ≡ true)
-four-of a b c d e =
+-- four lengths are those named
+four-fit : (a a′ b b′ c c′ d d′ : ℕ) → both (eqb a a′) (both (eqb b b′) (both (eqb c c′) (eqb d d′))) ≡ true
+    → (a ≡ a′) × (b ≡ b′) × (c ≡ c′) × (d ≡ d′)
+four-fit a a′ b b′ c c′ d d′ e =
     let first = both-of _ _ e in
     let second = both-of _ _ (first .1) in
     let third = both-of _ _ (second .1) in
-    (first .0, second .0, third .0, third .1)
+    (eqb-true a a′ (first .0), eqb-true b b′ (second .0), eqb-true c c′ (third .0), eqb-true d d′ (third .1))
 
 pub start-fits : (k len roots choices table correction : ℕ) → startLengths k len roots choices table correction ≡ true
     → (roots ≡ 32 * treesOf k) × (choices ≡ len) × (table ≡ columns * len) × (correction ≡ (treesOf k - 1) * len)
 unfolding startLengths
 start-fits k len roots choices table correction e =
-    let h = four-of _ _ _ _ e in
-    (eqb-true _ _ (h .0), eqb-true _ _ (h .1), eqb-true _ _ (h .2), eqb-true _ _ (h .3))
+    four-fit roots (32 * treesOf k) choices len table (columns * len) correction ((treesOf k - 1) * len) e
 
 pub correct-fits : (k len siblings delta correction table : ℕ) → correctLengths k len siblings delta correction table ≡ true
     → (siblings ≡ 32 * columns) × (delta ≡ 16) × (correction ≡ (treesOf k - 1) * len) × (table ≡ columns * len)
 unfolding correctLengths
 correct-fits k len siblings delta correction table e =
-    let h = four-of _ _ _ _ e in
-    (eqb-true _ _ (h .0), eqb-true _ _ (h .1), eqb-true _ _ (h .2), eqb-true _ _ (h .3))
+    four-fit siblings (32 * columns) delta 16 correction ((treesOf k - 1) * len) table (columns * len) e
 
 pub answer-fits : (blocks choices table message pads : ℕ) → answerLengths blocks choices table message pads ≡ true
     → (choices ≡ columnLength blocks) × (table ≡ columns * columnLength blocks) × (message ≡ 1032) × (pads ≡ 2048 * blocks)
 unfolding answerLengths
 answer-fits blocks choices table message pads e =
-    let h = four-of _ _ _ _ e in
-    (eqb-true _ _ (h .0), eqb-true _ _ (h .1), eqb-true _ _ (h .2), eqb-true _ _ (h .3))
+    four-fit choices (columnLength blocks) table (columns * columnLength blocks) message 1032 pads (2048 * blocks) e
 
 pub verify-fits : (blocks table delta message pads : ℕ) → verifyLengths blocks table delta message pads ≡ true
     → (table ≡ columns * columnLength blocks) × (delta ≡ 16) × (message ≡ 1032) × (pads ≡ 4096 * blocks)
 unfolding verifyLengths
 verify-fits blocks table delta message pads e =
-    let h = four-of _ _ _ _ e in
-    (eqb-true _ _ (h .0), eqb-true _ _ (h .1), eqb-true _ _ (h .2), eqb-true _ _ (h .3))
+    four-fit table (columns * columnLength blocks) delta 16 message 1032 pads (4096 * blocks) e
