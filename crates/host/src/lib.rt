@@ -4,7 +4,7 @@ mod numbered;
 use session::Record;
 ghost use Rattle.answer.specs.Answer.{Numbered};
 ghost use Rattle.setup.specs.Setup.{ReceiverSetup, SenderSetup};
-ghost use Rattle.session.specs.Steps.{OpenSession, ReceiverStart, SenderCorrect, ReceiverAnswer};
+ghost use Rattle.session.specs.Steps.{OpenSession, ReceiverStart, SenderCorrect, ReceiverAnswer, SenderVerify};
 
 // The receiver's setup. It returns the answer's number.
 #[no_mangle]
@@ -94,6 +94,23 @@ pub extern "C" fn softspoken_receiver_answer(
     ensures { λ x. ⌜ Numbered (λ answer. ReceiverAnswer (now (rec .entry)) key (now (choices .entry)) (now (table .entry)) (now (message .entry)) (now (pads .entry)) answer (now (rec .exit)) (now (message .exit)) (now (pads .exit))) x ⌝ }
 {
     let s = numbered::receiver_answer(*rec, key, choices, table, message, pads);
+    *rec = s.record;
+    s.number
+}
+
+// The sender's verify on a lent record. It returns the answer's number.
+#[no_mangle]
+pub extern "C" fn softspoken_sender_verify(
+    rec: &mut Record,
+    key: u64,
+    table: &[u8],
+    delta: &[u8],
+    message: &[u8],
+    pads: &mut [u8],
+) -> u32
+    ensures { λ x. ⌜ Numbered (λ answer. SenderVerify (now (rec .entry)) key (now (table .entry)) (now (delta .entry)) (now (message .entry)) (now (pads .entry)) answer (now (rec .exit)) (now (pads .exit))) x ⌝ }
+{
+    let s = numbered::sender_verify(*rec, key, table, delta, message, pads);
     *rec = s.record;
     s.number
 }

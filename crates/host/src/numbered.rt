@@ -1,7 +1,7 @@
 // The steps of a session by value, with the answer as its number.
 use session::Record;
 ghost use Rattle.answer.specs.Answer.{Numbered};
-ghost use Rattle.session.specs.Steps.{OpenSession, ReceiverStart, SenderCorrect, ReceiverAnswer};
+ghost use Rattle.session.specs.Steps.{OpenSession, ReceiverStart, SenderCorrect, ReceiverAnswer, SenderVerify};
 
 // What a step gives back: its answer's number, and the record after it.
 pub struct Outcome {
@@ -66,6 +66,23 @@ pub fn receiver_answer(
     ensures { λ x. ⌜ Numbered (λ answer. ReceiverAnswer r key (now (choices .entry)) (now (table .entry)) (now (message .entry)) (now (pads .entry)) answer (x .record) (now (message .exit)) (now (pads .exit))) (x .number) ⌝ }
 {
     let s = session::receiver_answer(r, key, choices, table, message, pads);
+    let answer = s.answer;
+    let record = s.record;
+    let number = answer::number_of(answer);
+    Outcome { number, record }
+}
+
+pub fn sender_verify(
+    r: Record,
+    key: u64,
+    table: &[u8],
+    delta: &[u8],
+    message: &[u8],
+    pads: &mut [u8],
+) -> Outcome
+    ensures { λ x. ⌜ Numbered (λ answer. SenderVerify r key (now (table .entry)) (now (delta .entry)) (now (message .entry)) (now (pads .entry)) answer (x .record) (now (pads .exit))) (x .number) ⌝ }
+{
+    let s = session::sender_verify(r, key, table, delta, message, pads);
     let answer = s.answer;
     let record = s.record;
     let number = answer::number_of(answer);
