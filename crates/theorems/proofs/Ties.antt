@@ -34,6 +34,9 @@ use Rattle.host.proofs.softspoken_sender_correct.Met as softspoken-sender-corre
 use Rattle.host.proofs.softspoken_receiver_answer as softspoken-receiver-answer
 use Rattle.host.proofs.softspoken_receiver_answer.Statement as softspoken-receiver-answer-stated
 use Rattle.host.proofs.softspoken_receiver_answer.Met as softspoken-receiver-answer-thm
+use Rattle.host.proofs.softspoken_sender_verify as softspoken-sender-verify
+use Rattle.host.proofs.softspoken_sender_verify.Statement as softspoken-sender-verify-stated
+use Rattle.host.proofs.softspoken_sender_verify.Met as softspoken-sender-verify-thm
 use Rattle.setup.proofs.receiver_setup as receiver-setup
 use Rattle.setup.proofs.receiver_setup.Statement as receiver-setup-stated
 use Rattle.setup.proofs.receiver_setup.Met as receiver-setup-thm
@@ -83,6 +86,9 @@ module _ {M : Type 1} (𝓤 : URA M) (H : Heap 𝓤) (A : Atoms 𝓤) (mem : Mem
   pub softspoken-receiver-answer-promises : Promises softspoken-receiver-answer.ended (softspoken-receiver-answer.clauses 𝓤 H A mem run) (λ κs a x e. Numbered (λ answer. ReceiverAnswer (now (a .0)) (a .1 .0) (now (a .1 .1 .0)) (now (a .1 .1 .1 .0)) (now (a .1 .1 .1 .1 .0)) (now (a .1 .1 .1 .1 .1 .0)) answer (now (e .0)) (now (e .1 .1 .1 .1 .0)) (now (e .1 .1 .1 .1 .1 .0))) x)
   softspoken-receiver-answer-promises κs a g x e = refl
 
+  pub softspoken-sender-verify-promises : Promises softspoken-sender-verify.ended (softspoken-sender-verify.clauses 𝓤 H A mem run) (λ κs a x e. Numbered (λ answer. SenderVerify (now (a .0)) (a .1 .0) (now (a .1 .1 .0)) (now (a .1 .1 .1 .0)) (now (a .1 .1 .1 .1 .0)) (now (a .1 .1 .1 .1 .1 .0)) answer (now (e .0)) (now (e .1 .1 .1 .1 .1 .0))) x)
+  softspoken-sender-verify-promises κs a g x e = refl
+
   -- ---- the same steps by value
 
   pub receiver-setup-promises : Promises receiver-setup.ended (receiver-setup.clauses 𝓤 H A mem run) (λ κs a x e. ReceiverSetup (a .0) (now (a .1 .0)) (now (a .1 .1 .0)) (now (a .1 .1 .1 .0)) x (now (e .1 .1 .1 .0)))
@@ -125,6 +131,9 @@ softspoken-sender-correct-meets = softspoken-sender-correct-thm.met
 
 pub softspoken-receiver-answer-meets : {M : Type 1} → softspoken-receiver-answer-stated.statement M
 softspoken-receiver-answer-meets = softspoken-receiver-answer-thm.met
+
+pub softspoken-sender-verify-meets : {M : Type 1} → softspoken-sender-verify-stated.statement M
+softspoken-sender-verify-meets = softspoken-sender-verify-thm.met
 
 pub receiver-setup-meets : {M : Type 1} → receiver-setup-stated.statement M
 receiver-setup-meets = receiver-setup-thm.met
