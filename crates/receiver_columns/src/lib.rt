@@ -8,6 +8,7 @@ ghost use Rattle.words.specs.Lanes.{laneBytes};
 ghost use Rattle.answer.specs.Answer.{widthAllowed};
 ghost use Rattle.tree.specs.Layout.{treesOf, rootOf};
 ghost use Rattle.columns.specs.Columns.{uOf, choicesOf, receiverColumn, receiverTable, correctionOf};
+ghost use Rattle.receiver_columns.specs.Room.{WorkFits};
 
 // Fills u with the sums of the streams of four trees of k levels, side by side, and v with their columns. They are whole blocks long; a
 // column of len bytes is the first len bytes of a lane.
@@ -34,7 +35,7 @@ fn four_trees(
     us: &mut [u8],
     table: &mut [u8],
 )
-    requires { ⌜ (k ≤ 8) × (len % 4 ≡ 0) × (0 < len) × (length (now u) % 64 ≡ 0) × (length (now u) ≤ 128) × (len ≤ length (now u)) × (length (now v) ≡ k * length (now u)) ⌝ }
+    requires { ⌜ WorkFits k len (now u) (now v) ⌝ }
     requires { ⌜ (length (now roots) ≡ 128) × (length (now us) ≡ 4 * len) × (length (now table) ≡ 4 * (k * len)) ⌝ }
     ensures { λ _. ⌜ now (us .exit) ≡ concat 4 (λ i. uOf k batch len (rootOf (now (roots .entry)) i)) ⌝ }
     ensures { λ _. ⌜ now (table .exit) ≡ concat 4 (λ i. concat k (receiverColumn k batch len (rootOf (now (roots .entry)) i))) ⌝ }
@@ -56,7 +57,7 @@ fn trees(
     us: &mut [u8],
     table: &mut [u8],
 )
-    requires { ⌜ (k ≤ 8) × (len % 4 ≡ 0) × (0 < len) × (length (now u) % 64 ≡ 0) × (length (now u) ≤ 128) × (len ≤ length (now u)) × (length (now v) ≡ k * length (now u)) ⌝ }
+    requires { ⌜ WorkFits k len (now u) (now v) ⌝ }
     requires { ⌜ (n % 4 ≡ 0) × (n ≤ 128) × (length (now roots) ≡ n * 32) × (length (now us) ≡ n * len) × (length (now table) ≡ n * (k * len)) ⌝ }
     ensures { λ _. ⌜ now (us .exit) ≡ concat n (λ i. uOf k batch len (rootOf (now (roots .entry)) i)) ⌝ }
     ensures { λ _. ⌜ now (table .exit) ≡ concat n (λ i. concat k (receiverColumn k batch len (rootOf (now (roots .entry)) i))) ⌝ }
@@ -96,7 +97,7 @@ fn first_trees(
     table: &mut [u8],
     correction: &mut [u8],
 )
-    requires { ⌜ (k ≤ 8) × (length (now choices) % 4 ≡ 0) × (0 < length (now choices)) × (length (now u) % 64 ≡ 0) × (length (now u) ≤ 128) × (length (now choices) ≤ length (now u)) × (length (now v) ≡ k * length (now u)) ⌝ }
+    requires { ⌜ WorkFits k (length (now choices)) (now u) (now v) ⌝ }
     requires { ⌜ (length (now roots) ≡ 128) × (length (now table) ≡ 4 * (k * length (now choices))) × (length (now correction) ≡ 3 * length (now choices)) ⌝ }
     ensures { λ _. ⌜ now (choices .exit) ≡ uOf k batch (length (now (choices .entry))) (rootOf (now (roots .entry)) 0) ⌝ }
     ensures { λ _. ⌜ now (table .exit) ≡ concat 4 (λ i. concat k (receiverColumn k batch (length (now (choices .entry))) (rootOf (now (roots .entry)) i))) ⌝ }

@@ -1,11 +1,13 @@
 -- What the code keeps of four trees. Assumes nothing.
 use mathlib.Core.Path.{_≡_}
 use mathlib.Core.List.{List}
-use Prim.Native.Nat.{ℕ, _+_, _*_, _/_, _%_, _^_, _≤_, _<_}
-use lib.ListN.{getD}
-use Rattle.words.specs.Bytes.{part}
+use Prim.Native.Nat.{ℕ, _+_, _-_, _*_, _/_, _%_, _^_, _≤_, _<_}
+use lib.ListN.{length, getD}
+use Rattle.words.specs.Bytes.{part, tabulate}
+use Rattle.words.specs.Xor.{xorEach, xorPart}
 use Rattle.words.specs.Lanes.{laneBytes}
 use Rattle.tree.specs.Path.{sideOf}
+use Rattle.tree.specs.Lanes.{columnWord}
 use Rattle.columns.specs.Columns.{senderColumn}
 
 -- sides has, for four trees of k levels, the sides of the numbers d
@@ -18,3 +20,18 @@ abbrev pub SenderLanes : ℕ → ℕ → ℕ → (ℕ → ℕ) → List ℕ → 
 SenderLanes k batch n d s u v =
     (len i b : ℕ) → len % 4 ≡ 0 → len ≤ n → i < 4 → b < k
     → laneBytes i (len / 4) (part (b * n) len v) ≡ senderColumn k batch len (laneBytes i (8 * k) s) (d i) (laneBytes i (len / 4) u) b
+
+-- the room that four trees of k levels are worked out in, for columns of len bytes: s for the siblings, u for the corrections, v for the columns
+abbrev pub WorkFits : ℕ → ℕ → List ℕ → List ℕ → List ℕ → Type 0
+WorkFits k len s u v =
+    (length s ≡ 32 * k) × (length u % 64 ≡ 0) × (length u ≤ 128) × (0 < length u) × (length v ≡ k * length u) × (len ≤ length u) × (len % 4 ≡ 0)
+
+-- the columns v, n words each, after one more level, where u was before it and u′ is after it: u is added to the level's column where delta has
+-- its bit 0, the columns below the siblings are added to all, and u′ to the level's column
+abbrev pub levelAdded : ℕ → ℕ → ℕ → ℕ → List ℕ → List ℕ → List ℕ → List ℕ → List ℕ → List ℕ
+levelAdded k batch level n sides s u v u′ =
+    let at : ℕ = (k - 1 - level) * n in
+    xorPart
+    (xorEach (xorPart v at n (λ i. getD (tabulate 4 (λ j. getD sides (j * k + level) 0)) (i % 4) 0 * getD u i 0))
+    (columnWord batch n (k - 1 - level) (part (32 * level) 32 s)))
+    at n (λ i. getD u′ i 0)

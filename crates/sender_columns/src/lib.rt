@@ -4,14 +4,14 @@ ghost use mathlib.Core.Path.{_≡_};
 ghost use mathlib.Core.Bool.{true};
 ghost use Prim.Native.Nat.{ℕ, _+_, _-_, _*_, _/_, _%_, _≤_, _<_};
 ghost use lib.ListN.{length, getD};
-ghost use Rattle.words.specs.Bytes.{tabulate, part, concat};
-ghost use Rattle.words.specs.Xor.{xorEach, xorPart};
-ghost use Rattle.tree.specs.Lanes.{uWord, columnWord};
+ghost use Rattle.words.specs.Bytes.{part, concat};
+ghost use Rattle.words.specs.Xor.{xorEach};
+ghost use Rattle.tree.specs.Lanes.{uWord};
 ghost use Rattle.tree.specs.Layout.{columns, treesOf, treePart};
 ghost use Rattle.tree.specs.Sides.{Sides};
 ghost use Rattle.answer.specs.Answer.{widthAllowed};
 ghost use Rattle.columns.specs.Columns.{senderColumn, senderTable, treeCorrection};
-ghost use Rattle.sender_columns.specs.Lanes.{SidesAre, SenderLanes};
+ghost use Rattle.sender_columns.specs.Lanes.{SidesAre, SenderLanes, WorkFits, levelAdded};
 
 // Adds u to v in the lanes whose side is 1.
 fn add_where(v: &mut [u32], u: &[u32], sides: [u8; 4])
@@ -50,7 +50,7 @@ fn add_level(
     requires { ⌜ (level < k) × (k ≤ 8) × (length (now sides) ≡ 4 * k) × Sides (now sides) × (length (now s) ≡ 32 * k) ⌝ }
     requires { ⌜ (length (now u) % 64 ≡ 0) × (length (now u) ≤ 512) × (0 < length (now u)) × (length (now v) ≡ k * length (now u)) ⌝ }
     ensures { λ _. ⌜ now (u .exit) ≡ xorEach (now (u .entry)) (uWord batch (k - 1 - level) (part (32 * level) 32 (now (s .entry)))) ⌝ }
-    ensures { λ _. ⌜ now (v .exit) ≡ xorPart (xorEach (xorPart (now (v .entry)) ((k - 1 - level) * length (now (u .entry))) (length (now (u .entry))) (λ i. getD (tabulate 4 (λ j. getD (now (sides .entry)) (j * k + level) 0)) (i % 4) 0 * getD (now (u .entry)) i 0)) (columnWord batch (length (now (u .entry))) (k - 1 - level) (part (32 * level) 32 (now (s .entry))))) ((k - 1 - level) * length (now (u .entry))) (length (now (u .entry))) (λ i. getD (now (u .exit)) i 0) ⌝ }
+    ensures { λ _. ⌜ now (v .exit) ≡ levelAdded k batch level (length (now (u .entry))) (now (sides .entry)) (now (s .entry)) (now (u .entry)) (now (v .entry)) (now (u .exit)) ⌝ }
 {
     let r = k - 1 - level;
     let at = r * u.len();
@@ -87,7 +87,7 @@ fn four_trees(
     table: &mut [u8],
 )
     requires { ⌜ (k ≤ 8) × (length (now sides) ≡ 4 * k) × Sides (now sides) × (length (now siblings) ≡ 4 * (32 * k)) × (length (now correction) ≡ 4 * len) × (length (now table) ≡ 4 * (k * len)) ⌝ }
-    requires { ⌜ (length (now s) ≡ 32 * k) × (length (now u) % 64 ≡ 0) × (length (now u) ≤ 128) × (0 < length (now u)) × (length (now v) ≡ k * length (now u)) × (len ≤ length (now u)) × (len % 4 ≡ 0) ⌝ }
+    requires { ⌜ WorkFits k len (now s) (now u) (now v) ⌝ }
     ensures { λ _. ⌜ ((d : ℕ → ℕ) → SidesAre k (now (sides .entry)) d → now (table .exit) ≡ concat 4 (λ i. concat k (senderColumn k batch len (treePart k 32 i (now (siblings .entry))) (d i) (part (i * len) len (now (correction .entry)))))) ⌝ }
 {
     words::clear(u);
@@ -112,7 +112,7 @@ fn first_trees(
     table: &mut [u8],
 )
     requires { ⌜ (k ≤ 8) × (length (now sides) ≡ 4 * k) × Sides (now sides) × (length (now siblings) ≡ 4 * (32 * k)) × (length (now correction) ≡ 3 * len) × (length (now table) ≡ 4 * (k * len)) ⌝ }
-    requires { ⌜ (length (now s) ≡ 32 * k) × (length (now u) % 64 ≡ 0) × (length (now u) ≤ 128) × (0 < length (now u)) × (length (now v) ≡ k * length (now u)) × (len ≤ length (now u)) × (len % 4 ≡ 0) ⌝ }
+    requires { ⌜ WorkFits k len (now s) (now u) (now v) ⌝ }
     ensures { λ _. ⌜ ((d : ℕ → ℕ) → SidesAre k (now (sides .entry)) d → now (table .exit) ≡ concat 4 (λ i. concat k (senderColumn k batch len (treePart k 32 i (now (siblings .entry))) (d i) (treeCorrection len (now (correction .entry)) i)))) ⌝ }
 {
     let mut all = [0u8; 512];
@@ -136,7 +136,7 @@ fn trees_from(
     table: &mut [u8],
 )
     requires { ⌜ (k ≤ 8) × (length (now sides) ≡ 4 * k) × Sides (now sides) × (length (now siblings) ≡ 4 * (32 * k)) × (i ≤ 128) × ((i + 3) * len ≤ length (now correction)) × (length (now table) ≡ 4 * (k * len)) ⌝ }
-    requires { ⌜ (length (now s) ≡ 32 * k) × (length (now u) % 64 ≡ 0) × (length (now u) ≤ 128) × (0 < length (now u)) × (length (now v) ≡ k * length (now u)) × (len ≤ length (now u)) × (len % 4 ≡ 0) ⌝ }
+    requires { ⌜ WorkFits k len (now s) (now u) (now v) ⌝ }
     ensures { λ _. ⌜ ((d : ℕ → ℕ) → SidesAre k (now (sides .entry)) d → now (table .exit) ≡ concat 4 (λ j. concat k (senderColumn k batch len (treePart k 32 j (now (siblings .entry))) (d j) (treeCorrection len (now (correction .entry)) (i + j))))) ⌝ }
 {
     let end = (i + 3) * len;
@@ -184,7 +184,7 @@ fn all_trees(
     table: &mut [u8],
 )
     requires { ⌜ (widthAllowed k ≡ true) × (length (now siblings) ≡ 4096) × (length (now delta) ≡ 16) × (length (now correction) ≡ (treesOf k - 1) * len) × (length (now table) ≡ columns * len) ⌝ }
-    requires { ⌜ (length (now s) ≡ 32 * k) × (length (now u) % 64 ≡ 0) × (length (now u) ≤ 128) × (0 < length (now u)) × (length (now v) ≡ k * length (now u)) × (len ≤ length (now u)) × (len % 4 ≡ 0) ⌝ }
+    requires { ⌜ WorkFits k len (now s) (now u) (now v) ⌝ }
     ensures { λ _. ⌜ now (table .exit) ≡ senderTable k batch len (now (siblings .entry)) (now (delta .entry)) (now (correction .entry)) ⌝ }
 {
     let sides = tree::side::all(k, delta);
