@@ -16,7 +16,7 @@ use Rattle.pads.specs.Pads.{rowOf}
 use Rattle.session.specs.declared.Record.{Record}
 use Rattle.session.specs.Steps.{stageReady, ReceiverStart, SenderCorrect, ReceiverAnswer, SenderVerify}
 
--- the last batch that a session had, and that it is ready for the next
+-- a session of a width, ready for a batch
 pub record Ready (r : Record) (width : ℕ) : Type 0 where
   pub wide : r .width ≡ width
   pub ready : r .stage ≡ stageReady
