@@ -18,7 +18,7 @@ use Rattle.tree.proofs.Widths.{Fits, width-fits}
 use Rattle.answer.specs.declared.Answer.{Answer}
 use Rattle.answer.specs.declared.Answer.the-variants.{Done, Width, Stage, Batch, Blocks, Length, Check}
 use Rattle.answer.specs.Answer.{unless, whenDone, whenFailed}
-use Rattle.answer.proofs.Laws.{every-of, every-is}
+use Rattle.answer.proofs.Laws.{apart, every-of, every-is}
 use Rattle.setup.specs.Setup.{besidePaths}
 use Rattle.setup.proofs.Answers.{receiver-fits}
 use Rattle.columns.specs.Columns.{senderTable}
@@ -51,9 +51,6 @@ judged true true false p l x a e or = absurd (neither a Batch (differ Batch Done
 judged true true true false l x a e or = absurd (neither a Blocks (differ Blocks Done (λ z. omega arith)) (differ Blocks Check (λ z. omega arith)) e or)
 judged true true true true false x a e or = absurd (neither a Length (differ Length Done (λ z. omega arith)) (differ Length Check (λ z. omega arith)) e or)
 judged true true true true true x a e or = (refl, e)
-
-apart : _≡_ {A = Bool} true false → ⊥
-apart e = let z : _≡_ {A = ℕ} 0 1 = cc in omega arith
 
 -- ---- a run
 
@@ -103,7 +100,7 @@ module _ (s : Sent) (delta : List ℕ) (run : Run s delta) where
   decided false e a same = inr record {
     differ = λ meet.
         apart
-        (sym (every-is columns (sidesEqual len (s .key) (run .table′) delta (s .message)) (λ c lt. eq-eqb _ _ (each-column c lt .1 (meet c lt)))) ∙ e);
+        (sym e ∙ every-is columns (sidesEqual len (s .key) (run .table′) delta (s .message)) (λ c lt. eq-eqb _ _ (each-column c lt .1 (meet c lt))));
     answered = a;
     recorded = run .sender-verify .recorded ∙ ap (λ (x : Answer). whenDone x (withoutBatch (run .q)) (whenFailed x (closed (run .q)) (run .q))) a;
     padded = run .sender-verify .padded
