@@ -14,7 +14,7 @@ import setup
 import sha256
 from setup import DONE, LENGTH, NODE, TRANSFERS, WIDTH, WIDTHS
 
-STAGE, BATCH, BLOCKS = 2, 3, 4
+STAGE, BATCH, BLOCKS, CHECK = 2, 3, 4, 6
 READY, OPEN, CLOSED = 0, 1, 2
 
 Record = collections.namedtuple("Record", "width last blocks stage")
@@ -26,6 +26,11 @@ def xor(numbers):
 
 def column_length(blocks):
     return 8 * (blocks + 1)
+
+
+def xor_bytes(a, b):
+    assert len(a) == len(b)
+    return bytes(x ^ y for x, y in zip(a, b))
 
 
 def parts(data, length):
@@ -80,6 +85,16 @@ def streams(leaves, batch, length):
     return [[(y, next(made)) for y, _ in tree] for tree in leaves]
 
 
+@functools.lru_cache(maxsize=8)
+def receiver_streams(width, roots, batch, length):
+    return streams(receiver_leaves(width, roots), batch, length)
+
+
+@functools.lru_cache(maxsize=8)
+def sender_streams(width, delta, siblings, batch, length):
+    return streams(sender_leaves(width, delta, siblings), batch, length)
+
+
 # Sums and columns of one tree.
 
 def total(tree):
@@ -98,7 +113,7 @@ def sender_columns(width, d, tree):
 
 def receiver_batch(width, roots, batch, length):
     """The choices, the receiver's table and the correction."""
-    trees = streams(receiver_leaves(width, roots), batch, length)
+    trees = receiver_streams(width, roots, batch, length)
     u = [total(tree) for tree in trees]
     table = [column for tree in trees for column in receiver_columns(width, tree)]
     return stored(u[:1], length), stored(table, length), stored([x ^ u[0] for x in u[1:]], length)
@@ -107,7 +122,7 @@ def receiver_batch(width, roots, batch, length):
 def sender_table(width, siblings, delta, batch, length, correction):
     added = [0] + [int.from_bytes(part, "little") for part in parts(correction, length)]
     out = []
-    for i, tree in enumerate(streams(sender_leaves(width, delta, siblings), batch, length)):
+    for i, tree in enumerate(sender_streams(width, delta, siblings, batch, length)):
         d = setup.delta_of(width, delta, i)
         for b, column in enumerate(sender_columns(width, d, tree)):
             out.append(column ^ (added[i] if d >> b & 1 else 0))
@@ -142,6 +157,14 @@ def folds(key, table, length):
 
 def check_message(key, choices, table):
     return b"".join(x.to_bytes(8, "little") for x in folds(key, choices + table, len(choices)))
+
+
+def accepts(key, table, delta, message):
+    """Whether in every column the sent fold ⊕ the fold of W is the sent choice fold where delta has the bit, and 0 elsewhere."""
+    first, *sent = gf64.words(message)
+    d = int.from_bytes(delta, "little")
+    mine = folds(key, table, len(table) // TRANSFERS)
+    return all(sent[c] ^ mine[c] == (first if d >> c & 1 else 0) for c in range(TRANSFERS))
 
 
 # The steps. Each gives the answer's number, the record, and what the ranges out then hold.
@@ -190,8 +213,20 @@ def answer_lengths(blocks):
     return [length, TRANSFERS * length, 8 * (1 + TRANSFERS), 2048 * blocks]
 
 
+def verify_lengths(blocks):
+    """Table, delta, message, pads."""
+    return [TRANSFERS * column_length(blocks), TRANSFERS // 8, 8 * (1 + TRANSFERS), 4096 * blocks]
+
+
 def lengths_of(ranges):
     return [len(r) for r in ranges]
+
+
+def open_session(record, width):
+    """Whatever the record held."""
+    if width not in WIDTHS:
+        return WIDTH, record
+    return DONE, Record(width, 0, 0, READY)
 
 
 def receiver_start(record, batch, blocks, roots, choices, table, correction):
@@ -221,11 +256,22 @@ def receiver_answer(record, key, choices, table, message, pads):
     return DONE, after, check_message(key, choices, table), receiver_pads(record.last, record.blocks, table)
 
 
-# What an honest batch has.
+def sender_verify(record, key, table, delta, message, pads):
+    given = lengths_of((table, delta, message, pads))
+    answer = ending(record, lambda: given == verify_lengths(record.blocks))
+    if answer != DONE:
+        return answer, record, pads
+    if not accepts(key, table, delta, message):
+        return CHECK, record._replace(stage=CLOSED), pads
+    after = Record(record.width, record.last, 0, READY)
+    return DONE, after, sender_pads(record.last, record.blocks, table, delta)
+
+
+# What an honest batch has, and how a damaged one is judged.
 
 def check_honest(rng, width, batch, blocks):
-    """Row j of W is row j of V, ⊕ delta where the choice is 1; the receiver's pad is the sender's of that number; and in each column
-    the sent fold ⊕ the fold of W is the choices' fold where delta has the bit, 0 elsewhere."""
+    """Row j of W is row j of V, ⊕ delta where the choice is 1; the sender accepts; and the receiver's pad is the sender's of the
+    choice's number."""
     roots, delta, key = rng.randbytes(setup.roots_length(width)), rng.randbytes(16), rng.randrange(1 << 64)
     length = column_length(blocks)
     siblings = setup.beside_paths(width, delta, roots)
@@ -236,10 +282,57 @@ def check_honest(rng, width, batch, blocks):
     assert 0 < sum(chosen) < 8 * length
     for j, choice in enumerate(chosen):
         assert row(w, length, j) == row(v, length, j) ^ (d if choice else 0)
-    mine, both = parts(receiver_pads(batch, blocks, v), 32), parts(sender_pads(batch, blocks, w, delta), 32)
+    given = Record(width, batch, blocks, OPEN)
+    answer, after, both = sender_verify(given, key, w, delta, check_message(key, choices, v), bytes(4096 * blocks))
+    assert (answer, after) == (DONE, Record(width, batch, 0, READY))
+    mine, both = parts(receiver_pads(batch, blocks, v), 32), parts(both, 32)
     assert mine == [both[2 * j + chosen[j]] for j in range(64 * blocks)]
-    first, *sent = gf64.words(check_message(key, choices, v))
-    assert [x ^ y for x, y in zip(sent, folds(key, w, length))] == [first if d >> c & 1 else 0 for c in range(TRANSFERS)]
+
+
+def equation_holds(width, key, delta, errors, choice, sent):
+    """Demand 3's equation in every column c: delta's bit c times the folded error of its tree is the error in sent fold c. Of the errors
+    given, one a tree, the first is 0; the others are those of the sent choice fold and of the sent folds."""
+    d = int.from_bytes(delta, "little")
+    folded = [choice ^ gf64.fold(key, gf64.words(error)) for error in errors]
+    return all((folded[c // width] if d >> c & 1 else 0) == sent[c] for c in range(TRANSFERS))
+
+
+def damages(rng, width, key, delta, length):
+    """Errors of the trees, of the sent choice fold and of the sent folds: at random in one place each, and those that a receiver sends
+    who guesses one tree's part of delta, and guesses right or not."""
+    trees = TRANSFERS // width
+    for i in rng.sample(range(1, trees), 4):
+        d, error = setup.delta_of(width, delta, i), rng.randbytes(length)
+        folded = gf64.fold(key, gf64.words(error))
+        for guess in {0, d, d ^ 1, d ^ 1 << width - 1}:
+            sent = [folded if c // width == i and guess >> c % width & 1 else 0 for c in range(TRANSFERS)]
+            yield [error if x == i else bytes(length) for x in range(trees)], 0, sent
+    clean = [bytes(length)] * trees
+    yield clean, 1 << rng.randrange(64), [0] * TRANSFERS
+    for _ in range(3):
+        c = rng.randrange(TRANSFERS)
+        yield clean, 0, [1 << rng.randrange(64) if x == c else 0 for x in range(TRANSFERS)]
+
+
+def check_damaged(rng, width, batch, blocks, delta):
+    """A damaged batch is accepted just where demand 3's equation holds, and gives the pads of its W; one that isn't accepted closes the
+    record and leaves the pads. Both must occur."""
+    roots, key, length = rng.randbytes(setup.roots_length(width)), rng.randrange(1, 1 << 64), column_length(blocks)
+    siblings = setup.beside_paths(width, delta, roots)
+    choices, v, correction = receiver_batch(width, roots, batch, length)
+    message, before, verdicts = check_message(key, choices, v), rng.randbytes(4096 * blocks), set()
+    given = Record(width, batch, blocks, OPEN)
+    for errors, choice, sent in damages(rng, width, key, delta, length):
+        w = sender_table(width, siblings, delta, batch, length, xor_bytes(correction, b"".join(errors[1:])))
+        received = xor_bytes(message, b"".join(x.to_bytes(8, "little") for x in [choice] + sent))
+        answer, after, pads = sender_verify(given, key, w, delta, received, before)
+        verdicts.add(answer)
+        if equation_holds(width, key, delta, errors, choice, sent):
+            assert (answer, after) == (DONE, Record(width, batch, 0, READY))
+            assert pads == sender_pads(batch, blocks, w, delta)
+        else:
+            assert (answer, after, pads) == (CHECK, Record(width, batch, blocks, CLOSED), before)
+    assert verdicts == {DONE, CHECK}
 
 
 def check_columns(width, bits, u, receiver, senders):
@@ -254,7 +347,7 @@ def check_columns(width, bits, u, receiver, senders):
 
 
 def check():
-    """Paper 01's M8 to M10; the sender's leaves are the receiver's but for the path's end; honest batches at every width."""
+    """Paper 01's M8 to M10; the sender's leaves are the receiver's but for the path's end; honest and damaged batches at every width."""
     check_columns(2, [1, 0, 1, 1], 1, 1, [(2, 3)])
     check_columns(2, [1, 1, 1, 1], 0, 0, [(3, 0)])
     check_columns(1, [0, 1], 1, 1, [(0, 1), (1, 0)])
@@ -268,3 +361,5 @@ def check():
             assert sorted(mine[i]) == tree[:d] + tree[d + 1:]
         check_honest(rng, width, rng.randrange(1, 1 << 32), 1)
         check_honest(rng, width, rng.randrange(1, 1 << 32), rng.randrange(2, 5))
+        for given in (delta, bytes(16), b"\xff" * 16):
+            check_damaged(rng, width, rng.randrange(1, 1 << 32), 1, given)
