@@ -341,7 +341,34 @@ def vectors():
     return v
 
 
-def host_cases():
+def session_cases():
+    """What tests/host lends to the steps of a session of two batches at width 8, and what they must give: the roots, the siblings of an
+    honest setup and delta; of each batch its number, blocks and key, and of each step the answer, the record and what it writes."""
+    rng = random.Random(1032)
+    width = 8
+    roots, delta = rng.randbytes(setup.roots_length(width)), rng.randbytes(16)
+    siblings = honest_siblings(width, delta, roots)
+    out = roots + siblings + delta
+    receiver = sender = batch.open_session(ready(0, 0), width)[1]
+    for number, blocks in ((1, 1), (MOST, 2)):
+        key = rng.randrange(1 << 64)
+        lengths = batch.start_lengths(width, blocks)
+        started = batch.receiver_start(receiver, number, blocks, roots, *map(bytes, lengths[1:]))
+        _, receiver, choices, v, correction = started
+        corrected = batch.sender_correct(sender, number, blocks, siblings, delta, correction, bytes(lengths[2]))
+        _, sender, w = corrected
+        answered = batch.receiver_answer(receiver, key, choices, v, bytes(1032), bytes(2048 * blocks))
+        _, receiver, message, _ = answered
+        verified = batch.sender_verify(sender, key, w, delta, message, bytes(4096 * blocks))
+        sender = verified[1]
+        out += numbers(number, blocks) + key.to_bytes(8, "little")
+        for answer, after, *written in (started, corrected, answered, verified):
+            assert answer == batch.DONE
+            out += numbers(answer, *after) + b"".join(written)
+    return out
+
+
+def setup_cases():
     """What tests/host lends to both setups and what they must write. At each width: roots, base pads and the message; delta, the
     sender's base pads and the siblings that these and that message give; then any delta, base pads and message and their siblings."""
     rng = random.Random(128)
@@ -364,7 +391,8 @@ def files():
         "crates/foldprint/stdout": gf64.foldprint(m3).encode(),
         "crates/vectors/stdin": v.asked,
         "crates/vectors/stdout": "".join(line + "\n" for line in v.lines).encode(),
-        "tests/host/cases.bin": host_cases(),
+        "tests/host/setup.bin": setup_cases(),
+        "tests/host/session.bin": session_cases(),
     }
 
 

@@ -1,0 +1,171 @@
+/* Plays both sides of a session as a host program does, on the batches that the second implementation stored: after each call the
+   answer, the record and every byte of every range must be what that implementation gives. Before each step it is called with faults,
+   and must refuse and leave everything; a wrong check message must close the session. */
+#include "../../include/softspoken.h"
+#include <stdio.h>
+#include <string.h>
+
+enum { WIDTH = 8, TREES = 128 / WIDTH, MOST_BLOCKS = 2, MOST_LENGTH = 8 * (MOST_BLOCKS + 1) };
+enum step { START, CORRECT, ANSWER, VERIFY };
+
+/* All that both sides hold, with room for one byte more in each range, so that a length too large can be lent. */
+struct ranges {
+    uint8_t roots[32 * TREES + 1], siblings[4097], delta[17];
+    uint8_t choices[MOST_LENGTH + 1], v[128 * MOST_LENGTH + 1], correction[(TREES - 1) * MOST_LENGTH + 1], w[128 * MOST_LENGTH + 1];
+    uint8_t message[1033], mine[2048 * MOST_BLOCKS + 1], both[4096 * MOST_BLOCKS + 1];
+};
+
+/* A call, beside the record: what is given, and the lengths of the step's ranges in the order of its parameters. */
+struct call { enum step step; uint32_t number, blocks; uint64_t key; size_t n[4]; };
+
+static const char *const names[] = {"receiver start", "sender correct", "receiver answer", "sender verify"};
+static struct ranges lent;
+static unsigned calls, wrong;
+
+static void expect(int right, const char *step, const char *what) {
+    if (right) return;
+    printf("host: %s: %s\n", step, what);
+    wrong++;
+}
+
+static struct call call_of(enum step step, uint32_t number, uint32_t blocks, uint64_t key) {
+    const size_t len = 8 * (blocks + 1), table = 128 * len, correction = (TREES - 1) * len;
+    const size_t n[4][4] = {{32 * TREES, len, table, correction},
+                            {4096, 16, correction, table},
+                            {len, table, 1032, 2048 * blocks},
+                            {table, 16, 1032, 4096 * blocks}};
+    struct call c = {step, number, blocks, key, {0}};
+    memcpy(c.n, n[step], sizeof c.n);
+    return c;
+}
+
+static uint32_t made(const struct call *c, struct softspoken_record *r) {
+    struct ranges *a = &lent;
+    const size_t *n = c->n;
+    calls++;
+    switch (c->step) {
+    case START:
+        return softspoken_receiver_start(r, a->roots, n[0], c->number, c->blocks, a->choices, n[1], a->v, n[2], a->correction, n[3]);
+    case CORRECT:
+        return softspoken_sender_correct(r, a->siblings, n[0], a->delta, n[1], c->number, c->blocks, a->correction, n[2], a->w, n[3]);
+    case ANSWER:
+        return softspoken_receiver_answer(r, c->key, a->choices, n[0], a->v, n[1], a->message, n[2], a->mine, n[3]);
+    default:
+        return softspoken_sender_verify(r, c->key, a->w, n[0], a->delta, n[1], a->message, n[2], a->both, n[3]);
+    }
+}
+
+/* Makes a call and holds the answer, the record and all ranges to what must stand there afterwards. */
+static void compare(const struct call *c, struct softspoken_record *r, uint32_t answer, struct softspoken_record after,
+                    const struct ranges *ranges) {
+    expect(made(c, r) == answer, names[c->step], "another answer");
+    expect(!memcmp(r, &after, sizeof after), names[c->step], "another record");
+    expect(!memcmp(&lent, ranges, sizeof lent), names[c->step], "other bytes");
+}
+
+static void refused(struct call c, struct softspoken_record r, uint32_t answer) {
+    const struct ranges before = lent;
+    compare(&c, &r, answer, r, &before);
+}
+
+/* Each length one short and one long; then a fault for each refusal, from the last to the first, with those before it left in. */
+static void refusals(struct call c, struct softspoken_record r) {
+    const int opens = c.step == START || c.step == CORRECT;
+    for (int at = 0; at < 4; at++) {
+        c.n[at]--;
+        refused(c, r, SOFTSPOKEN_LENGTH);
+        c.n[at] += 2;
+        refused(c, r, SOFTSPOKEN_LENGTH);
+        c.n[at]--;
+    }
+    c.n[3]--;
+    *(opens ? &c.blocks : &r.blocks) = 16;
+    refused(c, r, SOFTSPOKEN_BLOCKS);
+    *(opens ? &c.blocks : &r.blocks) = 0;
+    refused(c, r, SOFTSPOKEN_BLOCKS);
+    *(opens ? &c.number : &r.last) = 0;
+    refused(c, r, SOFTSPOKEN_BATCH);
+    if (opens) {
+        c.number = r.last;
+        refused(c, r, SOFTSPOKEN_BATCH);
+    }
+    r.stage = opens ? SOFTSPOKEN_OPEN : SOFTSPOKEN_READY;
+    refused(c, r, SOFTSPOKEN_STAGE);
+    r.stage = SOFTSPOKEN_CLOSED;
+    refused(c, r, SOFTSPOKEN_STAGE);
+    r.width = 3;
+    refused(c, r, SOFTSPOKEN_WIDTH);
+}
+
+/* One wrong bit of the message closes the session; every step is then refused, until it is opened anew. */
+static void closes(const struct call *verify, struct softspoken_record r) {
+    lent.message[8] ^= 1;
+    const struct ranges before = lent;
+    const struct softspoken_record closed = {r.width, r.last, r.blocks, SOFTSPOKEN_CLOSED}, new = {WIDTH, 0, 0, SOFTSPOKEN_READY};
+    compare(verify, &r, SOFTSPOKEN_CHECK, closed, &before);
+    for (enum step step = START; step <= VERIFY; step++) refused(call_of(step, 7, verify->blocks, verify->key), r, SOFTSPOKEN_STAGE);
+    expect(softspoken_open(&r, WIDTH) == SOFTSPOKEN_DONE && !memcmp(&r, &new, sizeof r), "open", "a closed session isn't opened anew");
+    lent.message[8] ^= 1;
+}
+
+static void take(FILE *f, void *p, size_t n) {
+    expect(fread(p, 1, n, f) == n, "stored", "the file is too short");
+}
+
+/* The ranges that a step writes are its last ones: as the file has them. */
+static void take_written(FILE *f, const struct call *c, struct ranges *a) {
+    const size_t *n = c->n;
+    if (c->step == START) { take(f, a->choices, n[1]); take(f, a->v, n[2]); take(f, a->correction, n[3]); }
+    if (c->step == CORRECT) take(f, a->w, n[3]);
+    if (c->step == ANSWER) { take(f, a->message, n[2]); take(f, a->mine, n[3]); }
+    if (c->step == VERIFY) take(f, a->both, n[3]);
+}
+
+/* The two steps that open the batch, then the two that end it; records are the receiver's and the sender's. */
+static void batch(FILE *f, struct softspoken_record records[2]) {
+    static struct ranges after;
+    struct { uint32_t number, blocks; uint64_t key; } given;
+    take(f, &given, sizeof given);
+    if (given.blocks > MOST_BLOCKS) given.blocks = MOST_BLOCKS;
+    for (enum step step = START; step <= VERIFY; step++) {
+        const struct call c = call_of(step, given.number, given.blocks, given.key);
+        struct { uint32_t answer; struct softspoken_record record; } stored;
+        refusals(c, records[step % 2]);
+        if (step == VERIFY) closes(&c, records[1]);
+        after = lent;
+        take(f, &stored, sizeof stored);
+        take_written(f, &c, &after);
+        compare(&c, &records[step % 2], stored.answer, stored.record, &after);
+    }
+}
+
+/* Opens a session on a record that holds other numbers; other widths are refused and leave it. */
+static void opens(struct softspoken_record *r) {
+    const uint32_t not_allowed[] = {0, 3, 5, 16, UINT32_MAX};
+    const struct softspoken_record any = {3, 5, 77, SOFTSPOKEN_CLOSED}, new = {WIDTH, 0, 0, SOFTSPOKEN_READY};
+    *r = any;
+    for (int i = 0; i < 5; i++)
+        expect(softspoken_open(r, not_allowed[i]) == SOFTSPOKEN_WIDTH && !memcmp(r, &any, sizeof any), "open", "a width is not refused");
+    expect(softspoken_open(r, WIDTH) == SOFTSPOKEN_DONE && !memcmp(r, &new, sizeof new), "open", "another record");
+}
+
+int main(int argc, char **argv) {
+    struct softspoken_record records[2];
+    FILE *f = argc == 2 ? fopen(argv[1], "rb") : NULL;
+    if (!f) return 2;
+    memset(&lent, 0xa5, sizeof lent);
+    take(f, lent.roots, 32 * TREES);
+    take(f, lent.siblings, 4096);
+    take(f, lent.delta, 16);
+    opens(&records[0]);
+    opens(&records[1]);
+    batch(f, records);
+    batch(f, records);
+    /* the second batch has the highest number, and none is above it */
+    refused(call_of(START, UINT32_MAX, 1, 0), records[0], SOFTSPOKEN_BATCH);
+    refused(call_of(CORRECT, UINT32_MAX, 1, 0), records[1], SOFTSPOKEN_BATCH);
+    expect(fgetc(f) == EOF, "stored", "the file is too long");
+    fclose(f);
+    printf("host: %u calls of the steps of a session, %u differences\n", calls, wrong);
+    return wrong ? 1 : 0;
+}
