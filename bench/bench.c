@@ -108,45 +108,91 @@ static const struct row rows[] = {
     {"sender setup, k = 1", sender1_plain, 1, sender1_proved, 1, 0.6, 100},
 };
 
-/* The steps of a batch, of the width and the blocks that stand here; both sides have the same inputs and outputs of their own. */
+/* The steps of a batch, of the width and the blocks that stand here. Both sides have the same inputs, and outputs of their own. */
 
-struct outputs { uint8_t choices[128], v[16384], correction[16256], w[16384], message[1032], pads[30720]; };
+struct outputs { uint32_t answer; uint8_t choices[128], v[16384], correction[16256], w[16384], message[1032], mine[30720], both[61440]; };
 
 static uint32_t width, blocks;
 static uint64_t fold_key;
-static uint8_t siblings[4096], received[16256], choices[128], table[16384];
+static uint8_t siblings[4096], received[16256], choices[128], v[16384], w[16384], sent[1032];
 static struct outputs plain_out, proved_out;
 
 static size_t column(void) { return 8 * (blocks + 1); }
+static size_t correction(void) { return (128 / width - 1) * column(); }
+
+/* A record before a step that opens batch i + 1, and before one that ends it. */
+static struct softspoken_record *ready(void) {
+    static struct softspoken_record r;
+    r = (struct softspoken_record){width, 0, 0, SOFTSPOKEN_READY};
+    return &r;
+}
+static struct softspoken_record *opened(unsigned i) {
+    static struct softspoken_record r;
+    r = (struct softspoken_record){width, i + 1, blocks, SOFTSPOKEN_OPEN};
+    return &r;
+}
 
 static void start_plain(unsigned i) {
-    plain_receiver_start(width, roots, i + 1, blocks, plain_out.choices, plain_out.v, plain_out.correction);
+    struct outputs *o = &plain_out;
+    plain_receiver_start(width, roots, i + 1, blocks, o->choices, o->v, o->correction);
+    o->answer = SOFTSPOKEN_DONE;
 }
 static void start_proved(unsigned i) {
     struct outputs *o = &proved_out;
-    sink ^= bench_receiver_start(width, roots, 4096 / width, i + 1, blocks, o->choices, column(), o->v, 128 * column(), o->correction,
-                                 (128 / width - 1) * column());
+    o->answer = softspoken_receiver_start(ready(), roots, 4096 / width, i + 1, blocks, o->choices, column(), o->v, 128 * column(),
+                                          o->correction, correction());
 }
 static void correct_plain(unsigned i) {
-    plain_sender_correct(width, siblings, delta, i + 1, blocks, received, plain_out.w);
+    struct outputs *o = &plain_out;
+    plain_sender_correct(width, siblings, delta, i + 1, blocks, received, o->w);
+    o->answer = SOFTSPOKEN_DONE;
 }
 static void correct_proved(unsigned i) {
-    sink ^= bench_sender_correct(width, siblings, 4096, delta, 16, i + 1, blocks, received, (128 / width - 1) * column(), proved_out.w,
-                                 128 * column());
-}
-static void answer_plain(unsigned i) {
-    plain_receiver_answer(i + 1, blocks, fold_key, choices, table, plain_out.message, plain_out.pads);
-}
-static void answer_proved(unsigned i) {
     struct outputs *o = &proved_out;
-    sink ^= bench_receiver_answer(width, i + 1, blocks, fold_key, choices, column(), table, 128 * column(), o->message, 1032, o->pads,
-                                  2048 * blocks);
+    o->answer = softspoken_sender_correct(ready(), siblings, 4096, delta, 16, i + 1, blocks, received, correction(), o->w,
+                                          128 * column());
 }
 
+/* The steps that end a batch, on tables that are given. */
+static void end_receiver_plain(unsigned i, const uint8_t *choices, const uint8_t *table) {
+    struct outputs *o = &plain_out;
+    plain_receiver_answer(i + 1, blocks, fold_key, choices, table, o->message, o->mine);
+    o->answer = SOFTSPOKEN_DONE;
+}
+static void end_receiver_proved(unsigned i, const uint8_t *choices, const uint8_t *table) {
+    struct outputs *o = &proved_out;
+    o->answer = softspoken_receiver_answer(opened(i), fold_key, choices, column(), table, 128 * column(), o->message, 1032, o->mine,
+                                           2048 * blocks);
+}
+static void end_sender_plain(unsigned i, const uint8_t *table) {
+    struct outputs *o = &plain_out;
+    int accepted = plain_sender_verify(i + 1, blocks, fold_key, table, delta, sent, o->both);
+    o->answer = accepted ? SOFTSPOKEN_DONE : SOFTSPOKEN_CHECK;
+}
+static void end_sender_proved(unsigned i, const uint8_t *table) {
+    struct outputs *o = &proved_out;
+    o->answer = softspoken_sender_verify(opened(i), fold_key, table, 128 * column(), delta, 16, sent, 1032, o->both, 4096 * blocks);
+}
+static void answer_plain(unsigned i) { end_receiver_plain(i, choices, v); }
+static void answer_proved(unsigned i) { end_receiver_proved(i, choices, v); }
+static void verify_plain(unsigned i) { end_sender_plain(i, w); }
+static void verify_proved(unsigned i) { end_sender_proved(i, w); }
+
+/* A side's two steps on one batch, number 1, whose table the sent message fits. */
+static void receiver_batch_plain(unsigned i) { (void)i; start_plain(0); end_receiver_plain(0, plain_out.choices, plain_out.v); }
+static void receiver_batch_proved(unsigned i) { (void)i; start_proved(0); end_receiver_proved(0, proved_out.choices, proved_out.v); }
+static void sender_batch_plain(unsigned i) { (void)i; correct_plain(0); end_sender_plain(0, plain_out.w); }
+static void sender_batch_proved(unsigned i) { (void)i; correct_proved(0); end_sender_proved(0, proved_out.w); }
+
+enum { START, CORRECT, ANSWER, VERIFY, RECEIVER_BATCH, SENDER_BATCH };
+
 static const struct step { const char *name; void (*plain)(unsigned), (*proved)(unsigned); double goal; } steps[] = {
-    {"receiver start", start_plain, start_proved, 0.5},
-    {"sender correction", correct_plain, correct_proved, 0.5},
-    {"receiver answer", answer_plain, answer_proved, 0.35},
+    [START] = {"receiver start", start_plain, start_proved, 0.5},
+    [CORRECT] = {"sender correction", correct_plain, correct_proved, 0.5},
+    [ANSWER] = {"receiver answer", answer_plain, answer_proved, 0.35},
+    [VERIFY] = {"sender verify", verify_plain, verify_proved, 0.35},
+    [RECEIVER_BATCH] = {"receiver's whole batch", receiver_batch_plain, receiver_batch_proved, 0.5},
+    [SENDER_BATCH] = {"sender's whole batch", sender_batch_plain, sender_batch_proved, 0.5},
 };
 
 static double least(double best, void (*work)(unsigned), unsigned turns, double units) {
@@ -204,22 +250,39 @@ static void compare_setups(void) {
     }
 }
 
-/* Every width and every number of blocks. The outputs start alike, so that a byte that only one side writes is seen too. */
+static void put_le64(uint8_t *p, uint64_t x) { for (int j = 0; j < 8; j++) p[j] = x >> 8 * j; }
+
+/* Inputs of a width and a number of blocks: the sender's table of batch 1, and a message that it accepts. */
+static void prepare(uint32_t k, uint32_t p) {
+    width = k;
+    blocks = p;
+    fill(roots, sizeof roots); fill(siblings, sizeof siblings); fill(delta, sizeof delta); fill(received, sizeof received);
+    fill(choices, sizeof choices); fill(v, sizeof v);
+    fold_key = random64();
+    plain_sender_correct(width, siblings, delta, 1, blocks, received, w);
+    uint64_t choice = random64();
+    put_le64(sent, choice);
+    for (int c = 0; c < 128; c++)
+        put_le64(sent + 8 + 8 * c, plain_fold(fold_key, w + c * column(), column()) ^ (delta[c / 8] >> c % 8 & 1 ? choice : 0));
+}
+
+static void compare_step(const struct step *s, unsigned i, uint32_t answer) {
+    fill(&plain_out, sizeof plain_out);
+    proved_out = plain_out;
+    s->plain(i);
+    s->proved(i);
+    expect(proved_out.answer == answer && !memcmp(&plain_out, &proved_out, sizeof plain_out), s->name);
+}
+
+/* Every width and every number of blocks; the verify also with a bit of the message flipped. The outputs start alike, so that a byte
+   that only one side writes is seen too. */
 static void compare_steps(void) {
     for (int n = 0; n < 60; n++) {
-        width = 1u << n % 4;
-        blocks = 1 + n / 4;
-        fill(roots, sizeof roots); fill(siblings, sizeof siblings); fill(delta, sizeof delta); fill(received, sizeof received);
-        fill(choices, sizeof choices); fill(table, sizeof table); fill(&plain_out, sizeof plain_out);
-        fold_key = random64();
-        proved_out = plain_out;
-        for (size_t s = 0; s < sizeof steps / sizeof *steps; s++) {
-            unsigned i = n == 59 ? UINT32_MAX - 1 : (unsigned)random64() % UINT32_MAX;
-            sink = SOFTSPOKEN_DONE;
-            steps[s].plain(i);
-            steps[s].proved(i);
-            expect(sink == SOFTSPOKEN_DONE && !memcmp(&plain_out, &proved_out, sizeof plain_out), steps[s].name);
-        }
+        prepare(1u << n % 4, 1 + n / 4);
+        unsigned i = n == 59 ? UINT32_MAX - 1 : (unsigned)random64() % UINT32_MAX;
+        for (size_t s = 0; s < sizeof steps / sizeof *steps; s++) compare_step(&steps[s], i, SOFTSPOKEN_DONE);
+        sent[8 + random64() % 1024] ^= 1 << n % 8;
+        compare_step(&steps[VERIFY], i, SOFTSPOKEN_CHECK);
     }
 }
 
@@ -227,9 +290,8 @@ static void time_steps(void) {
     printf("\n| Step | k | P | plain C, µs | proved, µs | ratio | goal |\n|---|---|---|---|---|---|---|\n");
     for (size_t s = 0; s < sizeof steps / sizeof *steps; s++)
         for (int n = 0; n < 8; n++) {
-            width = 1u << n / 2;
-            blocks = n % 2 ? 1 : 15;
-            unsigned turns = width == 8 ? 2 : 20; /* about a millisecond a pass */
+            prepare(1u << n / 2, n % 2 ? 1 : 15);
+            unsigned turns = width == 8 || blocks == 15 ? 2 : 20; /* about a millisecond a pass */
             double plain = 1e18, proved = 1e18;
             for (int pass = 0; pass < PASSES; pass++) {
                 plain = least(plain, steps[s].plain, turns, 1000);

@@ -224,6 +224,15 @@ void plain_sender_correct(unsigned width, const uint8_t *siblings, const uint8_t
     }
 }
 
+/* What the pad of a row hashes. */
+static void pad_input(uint32_t batch, size_t len, const uint8_t *table, unsigned row, uint8_t m[32]) {
+    memset(m, 0, 32);
+    memcpy(m, "PADS", 4);
+    for (int j = 0; j < 4; j++) m[4 + j] = batch >> 8 * j;
+    for (int j = 0; j < 4; j++) m[12 + j] = row >> 8 * j;
+    for (int c = 0; c < 128; c++) m[16 + c / 8] |= (table[c * len + row / 8] >> row % 8 & 1) << c % 8;
+}
+
 void plain_receiver_answer(uint32_t batch, unsigned blocks, uint64_t key, const uint8_t *choices, const uint8_t *table,
                            uint8_t message[1032], uint8_t *pads) {
     size_t len = 8 * (blocks + 1);
@@ -232,10 +241,29 @@ void plain_receiver_answer(uint32_t batch, unsigned blocks, uint64_t key, const 
         for (int j = 0; j < 8; j++) message[8 * c + j] = fold >> 8 * j;
     }
     for (unsigned row = 0; row < 64 * blocks; row++) {
-        uint8_t m[32] = "PADS";
-        for (int j = 0; j < 4; j++) m[4 + j] = batch >> 8 * j;
-        for (int j = 0; j < 4; j++) m[12 + j] = row >> 8 * j;
-        for (int c = 0; c < 128; c++) m[16 + c / 8] |= (table[c * len + row / 8] >> row % 8 & 1) << c % 8;
+        uint8_t m[32];
+        pad_input(batch, len, table, row, m);
         plain_sha256(m, 32, pads + 32 * row);
     }
+}
+
+static uint64_t load_le64(const uint8_t *p) { return load_le(p) | (uint64_t)load_le(p + 4) << 32; }
+
+int plain_sender_verify(uint32_t batch, unsigned blocks, uint64_t key, const uint8_t *table, const uint8_t delta[16],
+                        const uint8_t message[1032], uint8_t *pads) {
+    size_t len = 8 * (blocks + 1);
+    uint64_t choice = load_le64(message), different = 0;
+    for (int c = 0; c < 128; c++) {
+        uint64_t mask = -(uint64_t)(delta[c / 8] >> c % 8 & 1);
+        different |= load_le64(message + 8 + 8 * c) ^ plain_fold(key, table + c * len, len) ^ (choice & mask);
+    }
+    if (different) return 0;
+    for (unsigned row = 0; row < 64 * blocks; row++) {
+        uint8_t m[32];
+        pad_input(batch, len, table, row, m);
+        plain_sha256(m, 32, pads + 64 * row);
+        xor_into(m + 16, delta, 16);
+        plain_sha256(m, 32, pads + 64 * row + 32);
+    }
+    return 1;
 }

@@ -16,3 +16,6 @@ void plain_sender_correct(unsigned width, const uint8_t *siblings, const uint8_t
                           const uint8_t *correction, uint8_t *table);
 void plain_receiver_answer(uint32_t batch, unsigned blocks, uint64_t key, const uint8_t *choices, const uint8_t *table,
                            uint8_t message[1032], uint8_t *pads);
+/* Whether the check message is accepted; where it isn't, the pads stay. */
+int plain_sender_verify(uint32_t batch, unsigned blocks, uint64_t key, const uint8_t *table, const uint8_t delta[16],
+                        const uint8_t message[1032], uint8_t *pads);

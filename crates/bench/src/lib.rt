@@ -1,13 +1,10 @@
-// The primitives and the steps of a batch under names that C can call, for bench/ and tests/.
-use session::Record;
+// The primitives under names that C can call, for bench/ and tests/.
 ghost use mathlib.Core.Path.{_≡_};
 ghost use Rattle.sha256.specs.Sha.{digestOf};
 ghost use Rattle.sha256.specs.Four.{digests};
 ghost use Rattle.gf64.specs.Field.{foldBytes};
 ghost use Rattle.gf64.specs.Table.{tableOf};
 ghost use Rattle.bench.specs.Folds.{foldsWhere};
-ghost use Rattle.bench.specs.Steps.{Answered, fresh, inBatch};
-ghost use Rattle.session.specs.Steps.{ReceiverStart, SenderCorrect, ReceiverAnswer};
 ghost use Prim.Native.Nat.{ℕ};
 ghost use Rattle.chacha20.specs.ChaCha.{blockOf};
 ghost use Rattle.chacha20.specs.Lanes.{blocksOf};
@@ -76,77 +73,4 @@ pub extern "C" fn bench_fold_four(table: &[u32; 512], s: &[u8], len: usize, out:
         return;
     }
     *out = gf64::fold_four(table, s, len);
-}
-
-// The receiver's start on a fresh record.
-#[no_mangle]
-pub extern "C" fn bench_receiver_start(
-    width: u32,
-    roots: &[u8],
-    batch: u32,
-    blocks: u32,
-    choices: &mut [u8],
-    table: &mut [u8],
-    correction: &mut [u8],
-) -> u32
-    ensures { λ r. ⌜ Answered (λ answer after. ReceiverStart (fresh width) (now (roots .entry)) batch blocks (now (choices .entry)) (now (table .entry)) (now (correction .entry)) answer after (now (choices .exit)) (now (table .exit)) (now (correction .exit))) r ⌝ }
-{
-    let r = Record {
-        width,
-        last: 0,
-        blocks: 0,
-        stage: 0,
-    };
-    let s = session::receiver_start(r, roots, batch, blocks, choices, table, correction);
-    let answer = s.answer;
-    answer::number_of(answer)
-}
-
-// The sender's correction on a fresh record.
-#[no_mangle]
-pub extern "C" fn bench_sender_correct(
-    width: u32,
-    siblings: &[u8],
-    delta: &[u8],
-    batch: u32,
-    blocks: u32,
-    correction: &[u8],
-    table: &mut [u8],
-) -> u32
-    ensures { λ r. ⌜ Answered (λ answer after. SenderCorrect (fresh width) (now (siblings .entry)) (now (delta .entry)) batch blocks (now (correction .entry)) (now (table .entry)) answer after (now (table .exit))) r ⌝ }
-{
-    let r = Record {
-        width,
-        last: 0,
-        blocks: 0,
-        stage: 0,
-    };
-    let s = session::sender_correct(r, siblings, delta, batch, blocks, correction, table);
-    let answer = s.answer;
-    answer::number_of(answer)
-}
-
-// The receiver's answer in an open batch.
-#[no_mangle]
-pub extern "C" fn bench_receiver_answer(
-    width: u32,
-    batch: u32,
-    blocks: u32,
-    key: u64,
-    choices: &[u8],
-    table: &[u8],
-    message: &mut [u8],
-    pads: &mut [u8],
-) -> u32
-    ensures { λ r. ⌜ Answered (λ answer after. ReceiverAnswer (inBatch width batch blocks) key (now (choices .entry)) (now (table .entry)) (now (message .entry)) (now (pads .entry)) answer after (now (message .exit)) (now (pads .exit))) r ⌝ }
-{
-    let r = Record {
-        width,
-        last: batch,
-        blocks,
-        stage: 1,
-    };
-    let s = session::receiver_answer(r, key, choices, table, message, pads);
-    let answer = s.answer;
-    answer::number_of(answer)
 }
