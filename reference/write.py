@@ -21,12 +21,17 @@ import sha256
 ROOT = pathlib.Path(__file__).resolve().parent.parent
 
 # What a record of the program vectors asks for.
-(BLOCK, DIGEST, REPEATED, LINE, FOUR_BLOCKS, FOUR_DIGESTS, FOUR_FOLDS, NONCE,
- RECEIVER_SETUP, SENDER_SETUP, RECEIVER_START, SENDER_CORRECT, RECEIVER_ANSWER, BATCH) = range(1, 15)
+BLOCK, DIGEST, REPEATED, LINE, FOUR_BLOCKS, FOUR_DIGESTS, FOUR_FOLDS, NONCE, RECEIVER_SETUP, SENDER_SETUP = range(1, 11)
+
+# And one of the program batches.
+SET, OPEN, BATCH, RECEIVER_START, SENDER_CORRECT, RECEIVER_ANSWER, SENDER_VERIFY = range(1, 8)
+
+# What can be damaged in a whole batch: the correction and the message as the sender gets them; W, delta and the key at its verify.
+CORRECTION, MESSAGE, TABLE, DELTA, KEY = range(5)
 
 MOST = (1 << 32) - 1
 
-# The program vectors reads no more than this.
+# The programs vectors and batches read no more than this.
 LIMIT = 1000000
 
 
@@ -52,12 +57,12 @@ def numbers(*given):
     return b"".join(x.to_bytes(4, "little") for x in given)
 
 
-def stepped(answer, record, ranges):
-    """The answer's number, the record, and the digest of each range, as they are after a step."""
-    return bytes([answer]).hex() + numbers(*record).hex() + "".join(hashlib.sha256(r).hexdigest() for r in ranges)
+def stepped(answer, record, ranges=()):
+    """The answer's number, the record, and the first 8 bytes of the digest of each range, as they are after a step."""
+    return bytes([answer]).hex() + numbers(*record).hex() + "".join(hashlib.sha256(r).hexdigest()[:16] for r in ranges)
 
 
-class Vectors:
+class Records:
     """Records and the lines that they give: a kind, the length of what follows, and that."""
 
     def __init__(self):
@@ -65,10 +70,14 @@ class Vectors:
         self.lines = []
         self.records = 0
 
-    def add(self, kind, payload, line):
+    def add(self, kind, payload, *lines):
         self.asked += bytes([kind]) + len(payload).to_bytes(4, "little") + payload
-        self.lines.append(line)
+        self.lines += lines
         self.records += 1
+
+
+class Vectors(Records):
+    """What the program vectors runs: a line a record."""
 
     def block(self, key, counter, nonce):
         payload = key + counter.to_bytes(4, "little") + nonce
@@ -110,7 +119,16 @@ class Vectors:
     def sender_setup(self, width, *ranges):
         return self.setup(SENDER_SETUP, setup.sender_setup, width, ranges)
 
-    # The steps of a batch. Each record has a seed of its own, its number, and sends the lengths of the ranges.
+
+class Batches(Records):
+    """What the program batches plays: a line a step. The two sessions' records are handed on from step to step and from batch to batch,
+    there and here."""
+
+    def __init__(self):
+        super().__init__()
+        self.receiver = self.sender = batch.Record(0, 0, 0, 0)
+
+    # Single steps, on a record of their own. Each has a seed of its own, its number, and sends the lengths of the ranges.
 
     def step(self, kind, record, given, lengths, step):
         """A record of one step on four ranges, of which those that it writes are the last; given are 8 bytes."""
@@ -132,26 +150,55 @@ class Vectors:
         return self.step(RECEIVER_ANSWER, record, key.to_bytes(8, "little"), lengths,
                          lambda *ranges: batch.receiver_answer(record, key, *ranges))
 
-    def batch(self, seed, receiver, sender, number, blocks, key, delta, place=0, mask=0):
-        """A whole batch of two sessions that are ready, on the siblings of an honest setup; its base pads are all 0. On the way to the
-        sender one byte of the correction is altered by the mask. The ranges that the seed gives are roots, choices, V, correction, W,
-        message and pads."""
-        width = receiver.width
-        lengths = batch.start_lengths(width, blocks) + batch.answer_lengths(blocks)[1:]
-        roots, choices, v, correction, w, message, pads = [derived(seed, i, n) for i, n in enumerate(lengths)]
-        payload = numbers(*receiver, *sender, number, blocks) + key.to_bytes(8, "little") + numbers(seed, place, mask) + delta
-        payload += numbers(*lengths[:4], lengths[6])
-        siblings = honest_siblings(width, delta, roots)
-        answer, receiver, choices, v, correction = batch.receiver_start(receiver, number, blocks, roots, choices, v, correction)
-        lines = [stepped(answer, receiver, (roots, choices, v, correction))]
-        answer, receiver, message, pads = batch.receiver_answer(receiver, key, choices, v, message, pads)
-        lines.append(stepped(answer, receiver, (choices, v, message, pads)))
-        correction = correction[:place] + bytes([correction[place] ^ mask]) + correction[place + 1:]
-        answer, sender, w = batch.sender_correct(sender, number, blocks, siblings, delta, correction, w)
-        lines.append(stepped(answer, sender, (siblings, delta, correction, w)))
-        assert [line[:2] for line in lines] == ["00"] * 3
-        self.add(BATCH, payload, "\n".join(lines))
-        return receiver, sender
+    def sender_verify(self, record, key, lengths):
+        return self.step(SENDER_VERIFY, record, key.to_bytes(8, "little"), lengths,
+                         lambda *ranges: batch.sender_verify(record, key, *ranges))
+
+    # The two sessions.
+
+    def set(self, receiver, sender):
+        self.receiver, self.sender = receiver, sender
+        self.add(SET, numbers(*receiver, *sender))
+
+    def open(self, width):
+        """The answer, which is that of both."""
+        answer, self.receiver = batch.open_session(self.receiver, width)
+        again, self.sender = batch.open_session(self.sender, width)
+        assert answer == again
+        self.add(OPEN, numbers(width), stepped(answer, self.receiver), stepped(again, self.sender))
+        return answer
+
+    def batch(self, seed, width, number, blocks, key, delta, damage=()):
+        """A whole batch, on the siblings of an honest setup; its base pads are all 0. The damage has triples of a range, a place and what
+        is added there. The ranges that the seed gives are roots, choices, V, correction, W, message and both sides' pads. The answers of
+        the four steps."""
+        length = batch.start_lengths(width, blocks) + [2048 * blocks, 4096 * blocks]
+        roots, choices, v, correction = [derived(seed, i, n) for i, n in enumerate(length[:4])]
+        w, message = derived(seed, 4, len(v)), derived(seed, 5, 1032)
+        mine, both = derived(seed, 6, length[4]), derived(seed, 7, length[5])
+        payload = numbers(number, blocks) + key.to_bytes(8, "little") + numbers(seed) + delta + numbers(*length)
+        payload += b"".join(numbers(place) + bytes([what, 0, mask, 0]) for what, place, mask in damage)
+        first, self.receiver, choices, v, correction = batch.receiver_start(self.receiver, number, blocks, roots, choices, v, correction)
+        lines = [stepped(first, self.receiver, (roots, choices, v, correction))]
+        second, self.receiver, message, mine = batch.receiver_answer(self.receiver, key, choices, v, message, mine)
+        lines.append(stepped(second, self.receiver, (choices, v, message, mine)))
+        correction, siblings = damaged(damage, CORRECTION, correction), honest_siblings(width, delta, roots)
+        third, self.sender, w = batch.sender_correct(self.sender, number, blocks, siblings, delta, correction, w)
+        lines.append(stepped(third, self.sender, (siblings, delta, correction, w)))
+        message, w, delta = damaged(damage, MESSAGE, message), damaged(damage, TABLE, w), damaged(damage, DELTA, delta)
+        key = int.from_bytes(damaged(damage, KEY, key.to_bytes(8, "little")), "little")
+        fourth, self.sender, both = batch.sender_verify(self.sender, key, w, delta, message, both)
+        lines.append(stepped(fourth, self.sender, (w, delta, message, both)))
+        self.add(BATCH, payload, *lines)
+        return [first, second, third, fourth]
+
+
+def damaged(damage, what, data):
+    data = bytearray(data)
+    for kind, place, mask in damage:
+        if kind == what:
+            data[place] ^= mask
+    return bytes(data)
 
 
 honest_siblings = functools.lru_cache(maxsize=8)(setup.beside_paths)
@@ -210,41 +257,135 @@ def opened(width, last, blocks):
     return batch.Record(width, last, blocks, batch.OPEN)
 
 
+ACCEPTED = [batch.DONE] * 4
+REFUSED = [batch.DONE] * 3 + [batch.CHECK]
+
+
 def session(v, rng, width, sizes):
-    """Two sessions on three batches: each batch of the receiver's is opened and ended by its own steps. The sender's record is made
-    ready as its verdict would. A number that was had is refused on both sides, and so is every one after the last that there is."""
+    """Two sessions on three honest batches, from their opening on. A number that was had is refused on both sides, and so is every one
+    after the last that there is."""
     seed, delta = v.records, rng.randbytes(16)
-    receiver = sender = ready(width, 0)
+    assert v.open(width) == batch.DONE
     for number, blocks in zip((1, 2, MOST), sizes):
-        receiver, sender = v.batch(seed, receiver, sender, number, blocks, rng.randrange(1 << 64), delta)
-        assert v.sender_correct(sender, number, blocks, batch.correct_lengths(width, blocks)) == (batch.STAGE, sender)
-        sender = ready(width, sender.last)
-        assert receiver == sender == ready(width, number)
+        assert v.batch(seed, width, number, blocks, rng.randrange(1 << 64), delta) == ACCEPTED
+        assert v.receiver == v.sender == ready(width, number)
         for again in {number, 1}:
-            assert v.receiver_start(receiver, again, blocks, batch.start_lengths(width, blocks)) == (batch.BATCH, receiver)
-            assert v.sender_correct(sender, again, blocks, batch.correct_lengths(width, blocks)) == (batch.BATCH, sender)
+            refused = v.batch(seed, width, again, blocks, rng.randrange(1 << 64), delta)
+            assert refused == [batch.BATCH, batch.STAGE, batch.BATCH, batch.STAGE]
+        assert v.receiver == v.sender == ready(width, number)
 
 
-def batches_done(v, rng):
-    """Honest batches; a correction altered in its first, a middle and its last byte; delta 0 and all ones; then each step alone, on
-    records that hold any numbers where none is asked for, and on siblings of no setup."""
-    for width in setup.WIDTHS:
-        for sizes in ((15, 1, 2), (1, 2, 15), (2, 15, 1)):
-            session(v, rng, width, sizes)
-        last = (128 // width - 1) * batch.column_length(2) - 1
-        for place in (0, last // 2, last):
-            key, delta, mask = rng.randrange(1 << 64), rng.randbytes(16), rng.randrange(1, 256)
-            v.batch(v.records, ready(width, 6), ready(width, 5), 7, 2, key, delta, place, mask)
-        for delta in (bytes(16), b"\xff" * 16):
-            v.batch(v.records, ready(width, 0), ready(width, 0), 3, 1, rng.randrange(1 << 64), delta)
-            v.batch(v.records, ready(width, 0), ready(width, 0), 3, 1, 0, delta, last // 3, 255)
-        for blocks in (1, 2, 15):
-            record = batch.Record(width, rng.randrange(1 << 31), rng.randrange(1 << 32), batch.READY)
-            number = rng.randrange(1 << 31, 1 << 32)
-            assert v.receiver_start(record, number, blocks, batch.start_lengths(width, blocks))[0] == batch.DONE
-            assert v.sender_correct(record, number, blocks, batch.correct_lengths(width, blocks))[0] == batch.DONE
-            for key in (rng.randrange(1 << 64), 0, (1 << 64) - 1):
-                assert v.receiver_answer(opened(width, number, blocks), key, batch.answer_lengths(blocks))[0] == batch.DONE
+def closed_session(v, rng, width):
+    """A check that fails closes the sender's session: it refuses every further step by its stage, until it is opened again."""
+    seed, delta = v.records, rng.randbytes(15) + b"\xff"
+    last = (128 // width - 1) * batch.column_length(1) - 1
+    v.open(width)
+    assert v.batch(seed, width, 1, 1, 27, delta, [(CORRECTION, last, 1)]) == REFUSED
+    assert v.sender == batch.Record(width, 1, 1, batch.CLOSED)
+    for number, blocks in ((2, 1), (2, 2), (1, 1), (0, 15)):
+        answers = v.batch(seed, width, number, blocks, 27, delta)
+        assert answers[2:] == [batch.STAGE, batch.STAGE]
+        assert v.sender == batch.Record(width, 1, 1, batch.CLOSED)
+    assert v.open(3) == batch.WIDTH and v.sender.stage == batch.CLOSED
+    v.open(width)
+    assert v.batch(seed, width, 1, 1, 27, delta) == ACCEPTED
+
+
+def openings(v):
+    """Opening gives a ready record, whatever the record held; a width that isn't allowed leaves it as it was."""
+    strange = [(0, 0, 0, 0), (3, 7, 16, 3), (16, MOST, MOST, MOST), (8, 5, 15, 2), (1, MOST, 0, 0), (MOST, 1, 1, 1)]
+    for receiver, sender in zip(strange, strange[1:] + strange[:1]):
+        for width in (0, 3, 5, 16, MOST):
+            v.set(batch.Record(*receiver), batch.Record(*sender))
+            assert v.open(width) == batch.WIDTH
+            assert (v.receiver, v.sender) == (receiver, sender)
+        for width in setup.WIDTHS:
+            v.set(batch.Record(*receiver), batch.Record(*sender))
+            assert v.open(width) == batch.DONE
+            assert v.receiver == v.sender == (width, 0, 0, 0)
+
+
+def played(v, seed, width, number, key, delta, damage):
+    """A batch of one block on two sessions opened for it, and whether it was accepted: the record is then ready, else closed."""
+    v.open(width)
+    answers = v.batch(seed, width, number, 1, key, delta, damage)
+    assert answers in (ACCEPTED, REFUSED)
+    assert v.sender == (ready(width, number) if answers == ACCEPTED else batch.Record(width, number, 1, batch.CLOSED))
+    return answers == ACCEPTED
+
+
+def corrections_damaged(v, rng, width):
+    """One bit of the correction altered, in each tree in turn: accepted just where delta_i is 0. Of delta every third tree's part is 0, so
+    both occur."""
+    seed, number, key = v.records, rng.randrange(1, 1 << 32), rng.randrange(1, 1 << 64)
+    d = sum(rng.randrange(1, 1 << width) << i * width for i in range(128 // width) if i % 3)
+    delta, length, accepted = d.to_bytes(16, "little"), batch.column_length(1), 0
+    for i in range(1, 128 // width):
+        damage = [(CORRECTION, (i - 1) * length + rng.randrange(length), 1 << rng.randrange(8))]
+        verdict = played(v, seed, width, number, key, delta, damage)
+        assert verdict == (setup.delta_of(width, delta, i) == 0)
+        accepted += verdict
+    assert 0 < accepted < 128 // width - 1
+
+
+def guesses(v, rng, width):
+    """A receiver that guesses a tree's part of delta: it alters that tree's correction, and adds the folded error to the sent folds of
+    those columns whose bit it takes to be 1. Accepted just where the guess is right."""
+    seed, number, key, delta = v.records, rng.randrange(1, 1 << 32), rng.randrange(1, 1 << 64), rng.randbytes(16)
+    length = batch.column_length(1)
+    for i in (1, 128 // width // 2, 128 // width - 1):
+        d, place, mask = setup.delta_of(width, delta, i), rng.randrange(length), rng.randrange(1, 256)
+        error = gf64.fold(key, gf64.words(damaged([(0, place, mask)], 0, bytes(length)))).to_bytes(8, "little")
+        for guess in sorted({d, d ^ 1, d ^ 1 << width - 1, 0}):
+            columns = [i * width + b for b in range(width) if guess >> b & 1]
+            damage = [(CORRECTION, (i - 1) * length + place, mask)]
+            damage += [(MESSAGE, 8 * (1 + c) + x, error[x]) for c in columns for x in range(8)]
+            assert played(v, seed, width, number, key, delta, damage) == (guess == d)
+
+
+def messages_damaged(v, rng, width, folds):
+    """One bit of the check message altered, in each of the folds named: refused, but for the choice fold where delta is 0."""
+    seed, number, key, delta = v.records, rng.randrange(1, 1 << 32), rng.randrange(1 << 64), rng.randbytes(16)
+    for fold in folds:
+        damage = [(MESSAGE, 8 * fold + rng.randrange(8), 1 << rng.randrange(8))]
+        assert not played(v, seed, width, number, key, delta, damage)
+    assert played(v, seed, width, number, key, bytes(16), [(MESSAGE, rng.randrange(8), 1)])
+    assert not played(v, seed, width, number, key, bytes(16), [(MESSAGE, 8 + rng.randrange(1024), 1)])
+
+
+def verifies_damaged(v, rng, width):
+    """A verify on another delta, W or key than the batch's, each altered in one bit; the key 0, which hides all but the last word; and
+    delta 0 and all ones."""
+    seed, number, key, delta = v.records, rng.randrange(1, 1 << 32), rng.randrange(1 << 64), rng.randbytes(16)
+    length = 16
+    for place in (0, rng.randrange(16), 15):
+        assert not played(v, seed, width, number, key, delta, [(DELTA, place, 1 << rng.randrange(8))])
+    for column in (0, rng.randrange(128), 127):
+        damage = [(TABLE, column * length + rng.randrange(length), 1 << rng.randrange(8))]
+        assert not played(v, seed, width, number, key, delta, damage)
+    for place in (0, 7):
+        assert not played(v, seed, width, number, key, delta, [(KEY, place, 1 << rng.randrange(8))])
+    ones = b"\xff" * 16
+    for given in (bytes(16), ones):
+        assert played(v, seed, width, number, key, given, [])
+        assert played(v, seed, width, number, 0, given, [(CORRECTION, 0, 255)])
+    assert played(v, seed, width, number, key, bytes(16), [(CORRECTION, 8, 1)])
+    assert not played(v, seed, width, number, key, ones, [(CORRECTION, 8, 1)])
+    assert not played(v, seed, width, number, 0, ones, [(CORRECTION, 8, 1)])
+
+
+def steps_done(v, rng, width):
+    """Each step alone, on records that hold any numbers where none is asked for, and on siblings, tables and messages of no setup."""
+    for blocks in (1, 2, 15):
+        record = batch.Record(width, rng.randrange(1 << 31), rng.randrange(1 << 32), batch.READY)
+        number = rng.randrange(1 << 31, 1 << 32)
+        assert v.receiver_start(record, number, blocks, batch.start_lengths(width, blocks))[0] == batch.DONE
+        assert v.sender_correct(record, number, blocks, batch.correct_lengths(width, blocks))[0] == batch.DONE
+        for key in (rng.randrange(1 << 64), 0, MOST << 32 | MOST):
+            record = opened(width, number, blocks)
+            assert v.receiver_answer(record, key, batch.answer_lengths(blocks))[0] == batch.DONE
+            closed = batch.CHECK, record._replace(stage=batch.CLOSED)
+            assert v.sender_verify(record, key, batch.verify_lengths(blocks)) == closed
 
 
 def opening_refused(call, lengths_of):
@@ -275,18 +416,18 @@ def opening_refused(call, lengths_of):
         refused(batch.LENGTH, (width, 3, 0, 0), 4, blocks, lengths_of(3, blocks))
 
 
-def answer_refused(v):
-    """What the receiver's answer refuses, by the record and the lengths alone."""
-    right = batch.answer_lengths(1)
+def ending_refused(call, lengths_of):
+    """What either step that ends a batch refuses, by the record and the lengths alone."""
+    right = lengths_of(1)
 
     def refused(number, record, lengths):
-        assert v.receiver_answer(batch.Record(*record), 27, lengths) == (number, record)
+        assert call(batch.Record(*record), 27, lengths) == (number, record)
 
     for width in (0, 3, 5, 16, MOST):
         refused(batch.WIDTH, (width, 1, 1, 1), right)
         refused(batch.WIDTH, (width, 1, 1, 1), [1, 2, 3, 4])
         refused(batch.WIDTH, (width, 0, 0, 0), [0, 0, 0, 0])
-    for stage in (0, 2, 7, MOST):
+    for stage in (0, 2, 3, 7, MOST):
         refused(batch.STAGE, (8, 1, 1, stage), right)
         refused(batch.STAGE, (8, 0, 16, stage), [1, 2, 3, 4])
     refused(batch.BATCH, (8, 0, 1, 1), right)
@@ -294,11 +435,32 @@ def answer_refused(v):
     for blocks in (0, 16, 17, MOST):
         refused(batch.BLOCKS, (8, 1, blocks, 1), right)
         refused(batch.BLOCKS, (8, 1, blocks, 1), [1, 2, 3, 4])
-    refused(batch.BLOCKS, (8, 1, 0, 1), batch.answer_lengths(0))
+    refused(batch.BLOCKS, (8, 1, 0, 1), lengths_of(0))
     for width, blocks in ((8, 1), (1, 15)):
-        for lengths in wrong_lengths(batch.answer_lengths(blocks)):
+        for lengths in wrong_lengths(lengths_of(blocks)):
             refused(batch.LENGTH, (width, MOST, blocks, 1), lengths)
-        refused(batch.LENGTH, (width, MOST, blocks, 1), batch.answer_lengths(blocks - 1))
+        refused(batch.LENGTH, (width, MOST, blocks, 1), lengths_of(blocks - 1))
+
+
+def batches():
+    rng = random.Random(64)
+    v = Batches()
+    openings(v)
+    for width in setup.WIDTHS:
+        for sizes in ((15, 1, 2), (1, 2, 15), (2, 15, 1)):
+            session(v, rng, width, sizes)
+        closed_session(v, rng, width)
+        corrections_damaged(v, rng, width)
+        guesses(v, rng, width)
+        messages_damaged(v, rng, width, range(129) if width == 4 else (0, 1, 2, 64, 128))
+        verifies_damaged(v, rng, width)
+        steps_done(v, rng, width)
+    opening_refused(v.receiver_start, batch.start_lengths)
+    opening_refused(v.sender_correct, batch.correct_lengths)
+    ending_refused(v.receiver_answer, batch.answer_lengths)
+    ending_refused(v.sender_verify, batch.verify_lengths)
+    assert len(v.asked) <= LIMIT
+    return v
 
 
 def vectors():
@@ -333,10 +495,6 @@ def vectors():
     v.four_folds((1 << 64) - 1, [b"\xff" * 128] * 4)
     setups_done(v, rng)
     setups_refused(v)
-    batches_done(v, rng)
-    opening_refused(v.receiver_start, batch.start_lengths)
-    opening_refused(v.sender_correct, batch.correct_lengths)
-    answer_refused(v)
     assert len(v.asked) <= LIMIT
     return v
 
@@ -385,15 +543,16 @@ def setup_cases():
 
 def files():
     m3 = b"".join(x.to_bytes(8, "little") for x in (2, 1, 5))
-    v = vectors()
-    return {
+    out = {
         "crates/foldprint/stdin": m3,
         "crates/foldprint/stdout": gf64.foldprint(m3).encode(),
-        "crates/vectors/stdin": v.asked,
-        "crates/vectors/stdout": "".join(line + "\n" for line in v.lines).encode(),
         "tests/host/setup.bin": setup_cases(),
         "tests/host/session.bin": session_cases(),
     }
+    for name, made in (("vectors", vectors()), ("batches", batches())):
+        out["crates/%s/stdin" % name] = made.asked
+        out["crates/%s/stdout" % name] = "".join(line + "\n" for line in made.lines).encode()
+    return out
 
 
 def main():

@@ -3,14 +3,14 @@ use native.Mathlib.Omega.{arith}
 use mathlib.Core.Path.{_≡_}
 use lib.ListN.{length}
 use Prim.Native.Nat.{_≤_, _-_}
-use Rattle.vectors.proofs.derived.Statement.{statement}
-use Rattle.vectors.proofs.derived.Tie as tie
+use Rattle.cases.proofs.derived.Statement.{statement}
+use Rattle.cases.proofs.derived.Tie as tie
 
 abbrev Inv-loop : tie.InvT-loop
-Inv-loop seed range out₀ m₀ j₀ out m j = (j ≤ 961) × (30752 ≡ length out) × (12 ≡ length m)
+Inv-loop seed range out₀ m₀ j₀ out m j = (j ≤ 1921) × (61472 ≡ length out) × (12 ≡ length m)
 
 abbrev μ-loop : tie.MeasureT-loop
-μ-loop seed range out₀ m₀ j₀ out m j = 961 - j
+μ-loop seed range out₀ m₀ j₀ out m j = 1921 - j
 
 slice-aggregate-store32 : tie.Need-slice-aggregate-store32 Inv-loop μ-loop
 slice-aggregate-store32 c = search needs

@@ -1,7 +1,7 @@
 use lib.ListN.{length-replicate}
 use mathlib.Core.Path.{sym}
-use Rattle.vectors.proofs.million.Statement.{statement}
-use Rattle.vectors.proofs.million.Tie as tie
+use Rattle.cases.proofs.million.Statement.{statement}
+use Rattle.cases.proofs.million.Tie as tie
 
 returns : tie.Need-returns
 returns c = sym (length-replicate 1000000 (c .args .b))

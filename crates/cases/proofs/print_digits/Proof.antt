@@ -2,14 +2,14 @@ use borrow.Author.Needs.{needs}
 use native.Mathlib.Omega.{arith}
 use lib.ListN.{length}
 use Prim.Native.Nat.{_≤_, _-_}
-use Rattle.vectors.proofs.print.Statement.{statement}
-use Rattle.vectors.proofs.print.Tie as tie
+use Rattle.cases.proofs.print_digits.Statement.{statement}
+use Rattle.cases.proofs.print_digits.Tie as tie
 
 abbrev Inv-loop : tie.InvT-loop
-Inv-loop s i₀ t3 i = i ≤ length s
+Inv-loop s i₀ i = i ≤ length s
 
 abbrev μ-loop : tie.MeasureT-loop
-μ-loop s i₀ t3 i = length s - i
+μ-loop s i₀ i = length s - i
 
 loop-holds : tie.Need-loop-holds Inv-loop μ-loop
 loop-holds c = search needs
@@ -32,17 +32,11 @@ loop-less c = search needs
 loop-again : tie.Need-loop-again Inv-loop μ-loop
 loop-again c = search needs
 
-slice-aggregate-write-all : tie.Need-slice-aggregate-write-all Inv-loop μ-loop
-slice-aggregate-write-all c = search needs
-
-write-all-requires : tie.Need-write-all-requires Inv-loop μ-loop
-write-all-requires c κs = search needs
-
 returns : tie.Need-returns Inv-loop μ-loop
 returns c = search needs
 
-pub print-spec : {M : Type 1} → statement M
-print-spec =
+pub print-digits-spec : {M : Type 1} → statement M
+print-digits-spec =
     tie.close
     (tie.spec
     Inv-loop
@@ -54,6 +48,4 @@ print-spec =
     add-i
     loop-less
     loop-again
-    slice-aggregate-write-all
-    write-all-requires
     returns)
