@@ -541,11 +541,64 @@ def setup_cases():
     return out
 
 
+class Demo:
+    """What the program demo prints, of two sessions of width 8 on the ranges that its seeds give."""
+
+    def __init__(self):
+        self.text = "answers: 0 done, 2 wrong stage, 6 check failed; stage: 0 ready, 2 closed\n"
+        self.roots, self.delta, pairs = derived(1, 0, 512), derived(1, 1, 16), derived(1, 2, 8192)
+        first, message = setup.receiver_setup(8, self.roots, pairs, bytes(8192))
+        mine = setup.sender_pads(8, self.delta, pairs)
+        second, self.siblings = setup.sender_setup(8, self.delta, mine, message, bytes(4096))
+        self.text += "setup, width 8: answers %d %d\n" % (first, second)
+        nothing = batch.Record(0, 0, 0, 0)
+        self.receiver, self.sender = batch.open_session(nothing, 8)[1], batch.open_session(nothing, 8)[1]
+
+    def batch(self, number, blocks, flip=0):
+        """The four steps' answers, and how many pads agree."""
+        key = int.from_bytes(derived(2, number, 8), "little")
+        _, *given = map(bytes, batch.start_lengths(8, blocks))
+        start, opened, choices, v, correction = batch.receiver_start(self.receiver, number, blocks, self.roots, *given)
+        correction = damaged([(CORRECTION, 5, flip)], CORRECTION, correction)
+        correct, corrected, w = batch.sender_correct(self.sender, number, blocks, self.siblings, self.delta, correction, bytes(len(v)))
+        answer, self.receiver, message, mine = batch.receiver_answer(opened, key, choices, v, bytes(1032), bytes(2048 * blocks))
+        verify, self.sender, theirs = batch.sender_verify(corrected, key, w, self.delta, message, bytes(4096 * blocks))
+        mine_each, theirs_each = batch.parts(mine, 32), batch.parts(theirs, 32)
+        agree = sum(mine_each[j] == theirs_each[2 * j + (choices[j // 8] >> j % 8 & 1)] for j in range(64 * blocks))
+        self.text += "batch %d\n" % number
+        self.text += side("  receiver", start, opened, answer, self.receiver) + side("   sender", correct, corrected, verify, self.sender)
+        self.text += "\n  pads that agree: %d of %d" % (agree, 64 * blocks)
+        self.text += "; the sender's were written" if any(theirs) else "; none of the sender's was written"
+        self.text += "; digests %s %s\n" % tuple(hashlib.sha256(pads).hexdigest()[:16] for pads in (mine, theirs))
+        return [start, correct, answer, verify], agree
+
+
+def side(name, start, opened, end, after):
+    """One side's account of a batch. Its transfers count where the step that ends it was done."""
+    transfers = 64 * opened.blocks if end == batch.DONE else 0
+    text = "%s: last %d, blocks %d, transfers %d, answers %d %d, stage %d"
+    return text % (name, after.last, opened.blocks, transfers, start, end, after.stage)
+
+
+def demo():
+    """Three honest batches; one whose correction has a bit flipped, in a tree whose part of delta isn't 0; and one on the closed session."""
+    d = Demo()
+    for number, blocks in ((1, 1), (2, 15), (3, 4)):
+        assert d.batch(number, blocks) == (ACCEPTED, 64 * blocks)
+    d.text += "the receiver cheats: one bit of its correction is flipped\n"
+    assert d.batch(4, 2, flip=1) == (REFUSED, 0)
+    assert d.sender == batch.Record(8, 4, 2, batch.CLOSED)
+    d.text += "a further batch\n"
+    assert d.batch(5, 1) == ([batch.DONE, batch.STAGE, batch.DONE, batch.STAGE], 0)
+    return d.text
+
+
 def files():
     m3 = b"".join(x.to_bytes(8, "little") for x in (2, 1, 5))
     out = {
         "crates/foldprint/stdin": m3,
         "crates/foldprint/stdout": gf64.foldprint(m3).encode(),
+        "crates/demo/stdout": demo().encode(),
         "tests/host/setup.bin": setup_cases(),
         "tests/host/session.bin": session_cases(),
     }

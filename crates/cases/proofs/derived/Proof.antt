@@ -1,3 +1,4 @@
+-- `cases::derived` is safe, ends, and gives as many bytes as it says. Assumes nothing.
 use borrow.Author.Needs.{needs}
 use native.Mathlib.Omega.{arith}
 use mathlib.Core.Path.{_≡_}

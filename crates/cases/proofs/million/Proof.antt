@@ -1,3 +1,4 @@
+-- `cases::million` gives a million bytes. Assumes nothing.
 use lib.ListN.{length-replicate}
 use mathlib.Core.Path.{sym}
 use Rattle.cases.proofs.million.Statement.{statement}

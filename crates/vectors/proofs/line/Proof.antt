@@ -1,3 +1,4 @@
+-- `vectors::line` is safe: the line stands within its bytes. Assumes nothing.
 use Rattle.foldtext.proofs.Laws.{holds-within, holds-counted}
 use borrow.Author.Needs.{needs}
 use Rattle.vectors.proofs.line.Statement.{statement}

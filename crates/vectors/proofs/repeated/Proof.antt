@@ -1,3 +1,4 @@
+-- `vectors::repeated` is safe. Assumes nothing.
 use lib.Seq.{length-take-le}
 use native.Mathlib.Omega.{arith}
 use mathlib.Core.Path.{sym}

@@ -1,3 +1,4 @@
+-- `vectors::run` is safe and ends: each round takes a record of at least 5 bytes. Assumes nothing.
 use borrow.Author.Needs.{needs}
 use lib.ListN.{length}
 use Prim.Native.Nat.{_≤_, _-_}
