@@ -1,10 +1,9 @@
-// Runs the proved functions on the records of standard input, and prints what each gives, a line a record. The
-// records and the lines to be printed are written by reference/. What a program reads and writes no contract can say, so these
-// functions have none; that the lines are right is for the comparison to show.
+// Runs the proved functions on the records of standard input, and prints what each gives, a line a record. The records and the lines to
+// be printed are written by reference/. What a program reads and writes no contract can say, so these functions have none; that the lines
+// are right is for the comparison to show.
 use libc::STDIN_FILENO;
 use libc::STDOUT_FILENO;
-ghost use mathlib.Core.Path.{_≡_};
-ghost use Prim.Native.Nat.{_+_, _*_, _≤_};
+ghost use Prim.Native.Nat.{_+_, _≤_};
 ghost use lib.ListN.{length};
 
 // A key, a counter and a nonce: the block.

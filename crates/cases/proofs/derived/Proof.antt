@@ -1,6 +1,5 @@
 -- `cases::derived` is safe, ends, and gives as many bytes as it says. Assumes nothing.
 use borrow.Author.Needs.{needs}
-use native.Mathlib.Omega.{arith}
 use mathlib.Core.Path.{_≡_}
 use lib.ListN.{length}
 use Prim.Native.Nat.{_≤_, _-_}
