@@ -8,7 +8,7 @@ use lib.Dec.{ltb}
 use lib.ListN.{replicate}
 use borrow.Author.Tests.{eq-eqb, lt-ltb, le-ltb}
 use Rattle.words.specs.Bytes.{part}
-use Rattle.words.specs.Xor.{xorList, scale}
+use Rattle.words.specs.Xor.{xorList}
 use Rattle.words.proofs.Lists.{scale-zero, scale-one}
 use Rattle.tree.specs.Layout.{columns, treesOf, columnLength}
 use Rattle.answer.specs.declared.Answer.the-variants.{Width, Batch, Blocks}

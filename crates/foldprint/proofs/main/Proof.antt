@@ -1,7 +1,4 @@
 use Rattle.foldtext.proofs.Laws.{holds-within, holds-counted}
-use lib.ListN.{length, length-take}
-use native.Mathlib.Omega.{arith}
-use mathlib.Core.Path.{sym, ap, _∙_}
 use borrow.Author.Needs.{needs}
 use Rattle.foldprint.proofs.main.Statement.{statement}
 use Rattle.foldprint.proofs.main.Tie as tie
