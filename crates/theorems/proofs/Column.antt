@@ -165,7 +165,7 @@ module _ (s : Sent) (fits : length (s .correction) ≡ (treesOf (s .width) - 1) 
         (foldBytes-xor g v u both vsmall usmall ∙ ap (bitXor (foldBytes g v)) (foldBytes-scale g p (honestChoices s) bit))
         (foldBytes-scale g p (treeError s tree) bit)
 
-    -- THE COLUMN: the two sides are equal exactly when delta's bit times the folded error of the tree is the error in the sent fold
+    -- the two sides are equal exactly when delta's bit times the folded error of the tree is the error in the sent fold
     pub column-law : (columnSide (s .key) (sentColumn (s .message) c) (columnOf len table c) ≡ choiceSide p (sentChoice (s .message)))
         ↔ (p * foldedError s tree ≡ columnError s c)
     column-law =
