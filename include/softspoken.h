@@ -13,15 +13,15 @@
    A batch has P blocks, 1 to 15, of 64 transfers each, and one more block that is spent on the check: 64 * (P + 1) rows. A column has
    L = 8 * (P + 1) bytes; row j is at byte j / 8, weight 2^(j % 8). A table has 128 columns one after the other, 128 * L bytes.
 
-   No branch and no address depends on a byte of any range: only on the record, the numbers and the lengths. The verify's answer
-   depends on the ranges: whether the check failed. */
+   No branch and no address depends on a byte of any range, only on the record, the numbers and the lengths, but for one jump in the
+   verify: on its answer, which is public. This is tested on the compiled code, not proved. */
 #ifndef SOFTSPOKEN_H
 #define SOFTSPOKEN_H
 #include <stddef.h>
 #include <stdint.h>
 
-/* What a call returns: 0, or the number of a refusal. The conditions are tested in the order of these numbers, and the first that
-   doesn't hold is returned. After a refusal every range and the record are as they were, but for the record's stage after a failed
+/* What a call returns: 0, or the number of a refusal. These are looked for in the order of their numbers, and the first that is found is
+   returned. After a refusal every range and the record are as they were, but for the record's stage after a failed
    check. */
 enum softspoken_answer {
     SOFTSPOKEN_DONE = 0,
@@ -37,7 +37,7 @@ enum softspoken_answer {
 enum softspoken_stage {
     SOFTSPOKEN_READY = 0, /* for a new batch */
     SOFTSPOKEN_OPEN = 1,  /* a batch is open */
-    SOFTSPOKEN_CLOSED = 2 /* a check failed: every step but softspoken_open is refused */
+    SOFTSPOKEN_CLOSED = 2 /* a check failed: every step on this record but softspoken_open is refused */
 };
 
 /* The record of a session. Each side keeps its own and lends it to every step. It may hold any numbers. */
@@ -92,8 +92,10 @@ uint32_t softspoken_receiver_start(struct softspoken_record *record, const uint8
    siblings   4096 bytes in: the nodes of the sender's setup.
    delta      16 bytes in: the sender's secret.
    batch, blocks  those of the receiver's start.
-   correction (n - 1) * L bytes in: what the receiver's start wrote. A wrong one is noticed by the verify.
-   table      128 * L bytes out: the sender's table. Secret. Its row j is the receiver's row j, plus delta where choice j is 1. */
+   correction (n - 1) * L bytes in: what the receiver's start wrote. A wrong one isn't noticed here; the verify accepts it only where the
+              errors in what the receiver sent cancel in every column (docs/THEOREMS.md, demand 3).
+   table      128 * L bytes out: the sender's table. Secret. If both sides are honest, its row j is the receiver's row j, plus delta
+              where choice j is 1. */
 uint32_t softspoken_sender_correct(struct softspoken_record *record, const uint8_t *siblings, size_t siblings_len,
                                    const uint8_t *delta, size_t delta_len, uint32_t batch, uint32_t blocks,
                                    const uint8_t *correction, size_t correction_len, uint8_t *table, size_t table_len);
@@ -119,8 +121,8 @@ uint32_t softspoken_receiver_answer(struct softspoken_record *record, uint64_t k
    table      128 * L bytes in: what the sender's correction wrote.
    delta      16 bytes in: the sender's secret.
    message    1032 bytes in: what the receiver's answer wrote.
-   pads       4096 * P bytes out: for each row its pad 0 and then its pad 1, 32 bytes each. The receiver has the one that its choice
-              bit numbers. Secret. */
+   pads       4096 * P bytes out: for each row its pad 0 and then its pad 1, 32 bytes each. If both sides are honest, the receiver has
+              the one that its choice bit numbers. Secret. */
 uint32_t softspoken_sender_verify(struct softspoken_record *record, uint64_t key, const uint8_t *table, size_t table_len,
                                   const uint8_t *delta, size_t delta_len, const uint8_t *message, size_t message_len,
                                   uint8_t *pads, size_t pads_len);
