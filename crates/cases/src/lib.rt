@@ -2,7 +2,8 @@
 // say; where a function has a contract, it is what its callers need to be safe.
 use libc::STDOUT_FILENO;
 ghost use mathlib.Core.Path.{_≡_};
-ghost use lib.ListN.{length};
+ghost use lib.ListN.{length, getD, set};
+ghost use Rattle.words.specs.Xor.{_⊕_};
 
 // Prints some bytes in hexadecimal digits.
 pub fn print_digits(s: &[u8]) {
@@ -45,8 +46,10 @@ pub fn derived(seed: u32, range: u32) -> [u8; 61472]
     out
 }
 
-// Alters one byte, if there is one at that place.
-pub fn alter(s: &mut [u8], at: usize, mask: u8) {
+// Adds a mask to one byte, if there is one at that place.
+pub fn alter(s: &mut [u8], at: usize, mask: u8)
+    ensures { λ _. ⌜ now (s .exit) ≡ set (now (s .entry)) at (getD (now (s .entry)) at 0 ⊕ mask) ⌝ }
+{
     if at < s.len() {
         s[at] = s[at] ^ mask;
     }
