@@ -8,7 +8,7 @@ use borrow.Author.Tests.{eqb-true, leb-true}
 use Rattle.answer.specs.declared.Answer.{Answer}
 use Rattle.answer.specs.declared.Answer.the-variants.{Done, Width, Stage, Batch, Blocks, Length, Check}
 use Rattle.answer.specs.Answer.{unless, both, whenDone, whenFailed}
-use Rattle.answer.proofs.Laws.{both-of, done-of, width-refuses, length-refuses}
+use Rattle.answer.proofs.Laws.{both-of, done-of}
 use Rattle.tree.specs.Layout.{columns, treesOf, columnLength}
 use Rattle.session.specs.Steps.{inOrder, blocksAllowed, startLengths, correctLengths, answerLengths, verifyLengths}
 
@@ -74,24 +74,15 @@ check-decides a accepted decided e d = ap₂ (λ (x : Answer) (y : Bool). whenDo
 
 -- ---- a step that is done
 
-stage-refuses : Stage ≡ Done → ⊥
-stage-refuses e = let z : _≡_ {A = ℕ} 0 1 = cc in omega arith
-
-batch-refuses : Batch ≡ Done → ⊥
-batch-refuses e = let z : _≡_ {A = ℕ} 0 1 = cc in omega arith
-
-blocks-refuses : Blocks ≡ Done → ⊥
-blocks-refuses e = let z : _≡_ {A = ℕ} 0 1 = cc in omega arith
-
 -- all conditions hold
 pub all-hold : (w s b p l : Bool) → inOrder w s b p l ≡ Done → (w ≡ true) × (s ≡ true) × (b ≡ true) × (p ≡ true) × (l ≡ true)
 unfolding inOrder
 all-hold w s b p l e =
-    let width = done-of _ Width _ width-refuses e in
-    let stage = done-of _ Stage _ stage-refuses (width .1) in
-    let batch = done-of _ Batch _ batch-refuses (stage .1) in
-    let blocks = done-of _ Blocks _ blocks-refuses (batch .1) in
-    (width .0, stage .0, batch .0, blocks .0, done-of _ Length _ length-refuses (blocks .1) .0)
+    let width = done-of _ Width _ (omega arith) e in
+    let stage = done-of _ Stage _ (omega arith) (width .1) in
+    let batch = done-of _ Batch _ (omega arith) (stage .1) in
+    let blocks = done-of _ Blocks _ (omega arith) (batch .1) in
+    (width .0, stage .0, batch .0, blocks .0, done-of _ Length _ (omega arith) (blocks .1) .0)
 
 -- ---- what the conditions say
 

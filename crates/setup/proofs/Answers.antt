@@ -2,10 +2,11 @@
 use mathlib.Core.Path.{_≡_, _∙_}
 use mathlib.Core.Bool.{true}
 use Prim.Native.Nat.{ℕ, _*_}
+use native.Mathlib.Omega.{arith}
 use borrow.Author.Tests.{eq-eqb, eqb-true}
 use Rattle.answer.specs.declared.Answer.the-variants.{Done, Width, Length}
 use Rattle.answer.specs.Answer.{widthAllowed}
-use Rattle.answer.proofs.Laws.{passed, both-yes, both-of, done-of, width-refuses, length-refuses}
+use Rattle.answer.proofs.Laws.{passed, both-yes, both-of, done-of}
 use Rattle.tree.specs.Layout.{treesOf}
 use Rattle.setup.specs.Setup.{receiverSetupAnswer, senderSetupAnswer}
 
@@ -16,8 +17,8 @@ ReceiverFits k roots pads message = (widthAllowed k ≡ true) × (roots ≡ 32 *
 pub receiver-fits : (k roots pads message : ℕ) → receiverSetupAnswer k roots pads message ≡ Done → ReceiverFits k roots pads message
 unfolding receiverSetupAnswer
 receiver-fits k roots pads message e =
-    let width = done-of _ Width _ width-refuses e in
-    let first = both-of _ _ (done-of _ Length _ length-refuses (width .1) .0) in
+    let width = done-of _ Width _ (omega arith) e in
+    let first = both-of _ _ (done-of _ Length _ (omega arith) (width .1) .0) in
     let second = both-of _ _ (first .1) in
     (width .0, eqb-true _ _ (first .0), eqb-true _ _ (second .0), eqb-true _ _ (second .1))
 
@@ -35,8 +36,8 @@ pub sender-fits : (k delta pads message siblings : ℕ) → senderSetupAnswer k 
     → SenderFits k delta pads message siblings
 unfolding senderSetupAnswer
 sender-fits k delta pads message siblings e =
-    let width = done-of _ Width _ width-refuses e in
-    let first = both-of _ _ (done-of _ Length _ length-refuses (width .1) .0) in
+    let width = done-of _ Width _ (omega arith) e in
+    let first = both-of _ _ (done-of _ Length _ (omega arith) (width .1) .0) in
     let second = both-of _ _ (first .1) in
     let third = both-of _ _ (second .1) in
     (width .0, eqb-true _ _ (first .0), eqb-true _ _ (second .0), eqb-true _ _ (third .0), eqb-true _ _ (third .1))

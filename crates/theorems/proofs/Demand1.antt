@@ -9,36 +9,13 @@ use lib.Dec.{eqb}
 use Rattle.answer.specs.declared.Answer.{Answer}
 use Rattle.answer.specs.declared.Answer.the-variants.{Done, Width, Stage, Batch, Blocks, Length, Check}
 use Rattle.answer.specs.Answer.{number, unless, both, widthAllowed, whenDone, whenFailed}
+use Rattle.answer.proofs.Laws.{left, unfailed}
 use Rattle.tree.specs.Layout.{treesOf, columnLength}
 use Rattle.consistency.specs.Message.{accepts}
 use Rattle.setup.specs.Setup.{receiverSetupAnswer, senderSetupAnswer}
 use Rattle.session.specs.declared.Record.{Record}
 use Rattle.session.specs.Steps.{inOrder, closed}
 use Rattle.theorems.specs.Demand1.{Lent, ranges, session, Call, receiver-setup, sender-setup, open-session, receiver-start, sender-correct, receiver-answer, sender-verify, Among, shut, Demand1}
-
--- answers of different numbers differ
-pub differ : (a b : Answer) → (number a ≡ number b → ⊥) → a ≢ b
-differ a b ne e = ne (ap number e)
-
--- what a step leaves that isn't done
-pub left : {A : Type 0} (a : Answer) (new old : A) → a ≢ Done → whenDone a new old ≡ old
-left Done new old ne = absurd (ne refl)
-left Width new old ne = refl
-left Stage new old ne = refl
-left Batch new old ne = refl
-left Blocks new old ne = refl
-left Length new old ne = refl
-left Check new old ne = refl
-
--- and where no check failed
-pub unfailed : {A : Type 0} (a : Answer) (new old : A) → a ≢ Check → whenFailed a new old ≡ old
-unfailed Done new old ne = refl
-unfailed Width new old ne = refl
-unfailed Stage new old ne = refl
-unfailed Batch new old ne = refl
-unfailed Blocks new old ne = refl
-unfailed Length new old ne = refl
-unfailed Check new old ne = absurd (ne refl)
 
 -- ---- the conditions of the steps
 

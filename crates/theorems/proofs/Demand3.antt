@@ -18,7 +18,7 @@ use Rattle.tree.proofs.Widths.{Fits, width-fits}
 use Rattle.answer.specs.declared.Answer.{Answer}
 use Rattle.answer.specs.declared.Answer.the-variants.{Done, Width, Stage, Batch, Blocks, Length, Check}
 use Rattle.answer.specs.Answer.{unless, whenDone, whenFailed}
-use Rattle.answer.proofs.Laws.{apart, every-of, every-is}
+use Rattle.answer.proofs.Laws.{apart, every-of, every-is, differ}
 use Rattle.setup.specs.Setup.{besidePaths}
 use Rattle.setup.proofs.Answers.{receiver-fits}
 use Rattle.columns.specs.Columns.{senderTable}
@@ -31,7 +31,6 @@ use Rattle.theorems.specs.Errors.{Sent, lengthOf, columnError, foldedErr
 use Rattle.theorems.specs.Demand3.{Run, SidesEqual, ErrorsMeet, EveryColumn, TreePasses, Accepts, Closes, Demand3}
 use Rattle.theorems.proofs.Setup.{siblings-are}
 use Rattle.theorems.proofs.Column.{column-law}
-use Rattle.theorems.proofs.Demand1.{differ}
 
 -- ---- the verify's answer
 
