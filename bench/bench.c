@@ -123,12 +123,12 @@ static size_t correction(void) { return (128 / width - 1) * column(); }
 /* A record before a step that opens batch i + 1, and before one that ends it. */
 static struct softspoken_record *ready(void) {
     static struct softspoken_record r;
-    r = (struct softspoken_record){width, 0, 0, SOFTSPOKEN_READY};
+    r = (struct softspoken_record){width, 0, 0, SOFTSPOKEN_STAGE_READY};
     return &r;
 }
 static struct softspoken_record *opened(unsigned i) {
     static struct softspoken_record r;
-    r = (struct softspoken_record){width, i + 1, blocks, SOFTSPOKEN_OPEN};
+    r = (struct softspoken_record){width, i + 1, blocks, SOFTSPOKEN_STAGE_OPEN};
     return &r;
 }
 
@@ -167,7 +167,7 @@ static void end_receiver_proved(unsigned i, const uint8_t *choices, const uint8_
 static void end_sender_plain(unsigned i, const uint8_t *table) {
     struct outputs *o = &plain_out;
     int accepted = plain_sender_verify(i + 1, blocks, fold_key, table, delta, sent, o->both);
-    o->answer = accepted ? SOFTSPOKEN_DONE : SOFTSPOKEN_CHECK;
+    o->answer = accepted ? SOFTSPOKEN_DONE : SOFTSPOKEN_ERR_CHECK;
 }
 static void end_sender_proved(unsigned i, const uint8_t *table) {
     struct outputs *o = &proved_out;
@@ -282,7 +282,7 @@ static void compare_steps(void) {
         unsigned i = n == 59 ? UINT32_MAX - 1 : (unsigned)random64() % UINT32_MAX;
         for (size_t s = 0; s < sizeof steps / sizeof *steps; s++) compare_step(&steps[s], i, SOFTSPOKEN_DONE);
         sent[8 + random64() % 1024] ^= 1 << n % 8;
-        compare_step(&steps[VERIFY], i, SOFTSPOKEN_CHECK);
+        compare_step(&steps[VERIFY], i, SOFTSPOKEN_ERR_CHECK);
     }
 }
 

@@ -1,46 +1,102 @@
-/* Oblivious transfer extension (SoftSpokenOT over small fields): the setup of both sides and the steps of a session, for C.
+/* softspoken: oblivious transfer extension (SoftSpokenOT over small fields), proved, for C and C++.
 
-   Link with libhost.a. A byte range is a pointer and a length. The functions allocate nothing and keep nothing between calls. A range
-   that a call writes, and the record, must not overlap any other range of that call.
+   From 128 base transfers, made once for a pair, two sides draw batches of up to 960 oblivious transfers. The sender ends
+   with two pads of 32 bytes per transfer, the receiver with the one that its choice bit numbers.
 
-   A width k is 1, 2, 4 or 8. There are 128 / k trees, and 128 base transfers: transfer i * k + l belongs to level l of tree i, with
-   level 0 at the root. A node is 32 bytes.
+       receiver                                                  sender
+       softspoken_receiver_setup     --- setup message --->      softspoken_sender_setup       once for a pair
+       softspoken_open                                           softspoken_open
 
-   The secret delta is 16 bytes; its bit c is at byte c / 8, weight 2^(c % 8). Tree i has bits i * k to i * k + k - 1, the lowest
-   first, as a number. The path of that number through the tree takes its highest bit first: at level l it takes the side given by
-   bit i * k + (k - 1 - l) of delta, 0 for left and 1 for right.
+       softspoken_receiver_start     --- correction ------>      softspoken_sender_correct     for each batch
+                                     <-- key --------------      (random, drawn once the correction has come)
+       softspoken_receiver_answer    --- check message --->      softspoken_sender_verify
+       pads: one per transfer                                    pads: two per transfer
 
-   A batch has P blocks, 1 to 15, of 64 transfers each, and one more block that is spent on the check: 64 * (P + 1) rows. A column has
-   L = 8 * (P + 1) bytes; row j is at byte j / 8, weight 2^(j % 8). A table has 128 columns one after the other, 128 * L bytes.
+   Random bytes, base transfers and carriage between the sides are the host's. Link with -lsoftspoken.
 
-   No branch and no address depends on a byte of any range, only on the record, the numbers and the lengths, but for one jump in the
-   verify: on its answer, which is public. This is tested on the compiled code, not proved. */
+   CALLS. A byte range is a pointer and its length in bytes. The pointer must be valid for that length, and not null even
+   where the length is 0. The record, and a range that the call writes, must not overlap any other range of that call. Of
+   numbers, records, lengths and bytes any are allowed: what a step can't use it refuses. No function allocates, keeps
+   anything between calls or touches global data, so threads may call on records and ranges of their own. Beside what is
+   lent a call takes at most 16 KB of stack, which it doesn't wipe.
+
+   ANSWERS. A call returns SOFTSPOKEN_DONE or a refusal. The conditions of a step are looked at in the order in which its
+   comment lists the refusals, and the first that is met is returned. After a refusal the record and every range are as they
+   were, except that SOFTSPOKEN_ERR_CHECK sets the record's stage to SOFTSPOKEN_STAGE_CLOSED. A call never writes to a range
+   that is marked 'in', and never beyond a range.
+
+   SECRETS. Each range is marked 'secret' (this side tells it to nobody) or 'sent' (to or from the other side). Records, widths,
+   batch numbers, blocks, lengths, keys and answers are public. No branch and no address depends on a byte of any range, but
+   for one jump in softspoken_sender_verify, on its answer.
+
+   VALUES. Below, + of bytes is exclusive or, and numbers are little-endian. A node of a tree is 32 bytes, the key of a
+   ChaCha20 block (RFC 8439) whose nonce is a use number, a batch number and 0, of 4 bytes each. Use 0, batch 0, counter 0
+   gives a node's two children, the left one first. Leaves stand width levels below the root, numbered from 0 at the left. A
+   leaf's stream is its blocks of use 1 and the batch's number, counters 0 and 1, cut to the length of a column. The fold of a
+   column under a key starts at 0, and for each 64-bit word of the column in turn is multiplied by the key and has the word
+   added, as polynomials over two elements modulo X^64 + X^4 + X^3 + X + 1. The pad of a row value is SHA-256 of 32 bytes:
+   the letters PADS, the batch number in 8 bytes, the row in 4, and the row value in 16.
+
+   The promises below are proved for all inputs (docs/THEOREMS.md tells how); what SECRETS says and the bound on the stack
+   are tested on the compiled code, not proved. */
 #ifndef SOFTSPOKEN_H
 #define SOFTSPOKEN_H
+
 #include <stddef.h>
 #include <stdint.h>
 
-/* What a call returns: 0, or the number of a refusal. These are looked for in the order of their numbers, and the first that is found is
-   returned. After a refusal every range and the record are as they were, but for the record's stage after a failed
-   check. */
+#ifdef __cplusplus
+extern "C" {
+#endif
+
+/* The first number rises when a program that was compiled with an older header no longer works. */
+#define SOFTSPOKEN_VERSION "1.0.0"
+
+/* ---- Sizes. A width is 1, 2, 4 or 8. A batch has 1 to 15 blocks of 64 transfers, and one block more that is spent on the
+   check: 64 * (blocks + 1) rows. All sizes are exact, and constant expressions where their arguments are. */
+
+#define SOFTSPOKEN_BLOCKS_MAX 15
+#define SOFTSPOKEN_BASE_TRANSFERS 128
+#define SOFTSPOKEN_TREES(width) ((size_t)SOFTSPOKEN_BASE_TRANSFERS / (width))
+#define SOFTSPOKEN_TRANSFERS(blocks) ((size_t)64 * (blocks))
+
+/* One pad, of a base transfer or of a batch. */
+#define SOFTSPOKEN_PAD_BYTES 32
+
+/* Setup, and what each side keeps of it. */
+#define SOFTSPOKEN_ROOTS_BYTES(width) (32 * SOFTSPOKEN_TREES(width))
+#define SOFTSPOKEN_DELTA_BYTES 16
+#define SOFTSPOKEN_RECEIVER_BASE_PADS_BYTES 8192
+#define SOFTSPOKEN_SENDER_BASE_PADS_BYTES 4096
+#define SOFTSPOKEN_SETUP_MESSAGE_BYTES 8192
+#define SOFTSPOKEN_SIBLINGS_BYTES 4096
+
+/* A batch. */
+#define SOFTSPOKEN_CHOICES_BYTES(blocks) (8 * ((size_t)(blocks) + 1))
+#define SOFTSPOKEN_TABLE_BYTES(blocks) (128 * SOFTSPOKEN_CHOICES_BYTES(blocks))
+#define SOFTSPOKEN_CORRECTION_BYTES(width, blocks) ((SOFTSPOKEN_TREES(width) - 1) * SOFTSPOKEN_CHOICES_BYTES(blocks))
+#define SOFTSPOKEN_CHECK_MESSAGE_BYTES 1032
+#define SOFTSPOKEN_RECEIVER_PADS_BYTES(blocks) (SOFTSPOKEN_PAD_BYTES * SOFTSPOKEN_TRANSFERS(blocks))
+#define SOFTSPOKEN_SENDER_PADS_BYTES(blocks) (2 * SOFTSPOKEN_PAD_BYTES * SOFTSPOKEN_TRANSFERS(blocks))
+
+/* ---- What a call returns. */
 enum softspoken_answer {
     SOFTSPOKEN_DONE = 0,
-    SOFTSPOKEN_WIDTH = 1,  /* the width is not 1, 2, 4 or 8 */
-    SOFTSPOKEN_STAGE = 2,  /* the record is in another stage than the step needs */
-    SOFTSPOKEN_BATCH = 3,  /* the batch number is 0, or a new one is not above the last */
-    SOFTSPOKEN_BLOCKS = 4, /* the blocks are not 1 to 15 */
-    SOFTSPOKEN_LENGTH = 5, /* a range has another length than the one named */
-    SOFTSPOKEN_CHECK = 6   /* the check failed */
+    SOFTSPOKEN_ERR_WIDTH = 1,  /* the width is not 1, 2, 4 or 8 */
+    SOFTSPOKEN_ERR_STAGE = 2,  /* the record is in another stage than the step needs */
+    SOFTSPOKEN_ERR_BATCH = 3,  /* the batch number is 0, or a new one is not above the last */
+    SOFTSPOKEN_ERR_BLOCKS = 4, /* the blocks are not 1 to 15 */
+    SOFTSPOKEN_ERR_LENGTH = 5, /* a range has another length than the one named */
+    SOFTSPOKEN_ERR_CHECK = 6   /* the check failed: the receiver cheated, or what it sent was damaged */
 };
 
-/* The stages of a record. */
+/* ---- The record of a session. Each side has one of its own for each direction of transfers, and lends it to every step. */
 enum softspoken_stage {
-    SOFTSPOKEN_READY = 0, /* for a new batch */
-    SOFTSPOKEN_OPEN = 1,  /* a batch is open */
-    SOFTSPOKEN_CLOSED = 2 /* a check failed: every step on this record but softspoken_open is refused */
+    SOFTSPOKEN_STAGE_READY = 0, /* for a new batch */
+    SOFTSPOKEN_STAGE_OPEN = 1,  /* a batch is open */
+    SOFTSPOKEN_STAGE_CLOSED = 2 /* a check failed: every step but softspoken_open gets SOFTSPOKEN_ERR_STAGE */
 };
 
-/* The record of a session. Each side keeps its own and lends it to every step. It may hold any numbers. */
 struct softspoken_record {
     uint32_t width;
     uint32_t last;   /* the last batch number, 0 for none */
@@ -48,83 +104,132 @@ struct softspoken_record {
     uint32_t stage;
 };
 
-/* The receiver's setup.
+/* ---- Setup, once for a pair. Of the 128 / width trees, tree i has base transfers i * width to i * width + width - 1, one
+   for each level from the root down, and the bits of delta with the same numbers, the lowest first, as its own number. Bit c
+   of delta is at byte c / 8, weight 2^(c % 8). The tree's path ends at the leaf of that number, so it takes the highest bit
+   first. */
 
-   roots      4096 / width bytes in: a random node for each tree, in tree order. The receiver keeps them, secret, for every batch.
-   base_pads  8192 bytes in: for each base transfer, in order, its pad 0 and then its pad 1, 32 bytes each. Secret.
-   message    8192 bytes out: for each base transfer, in order, two masked totals of 32 bytes. To be sent to the sender. */
+/* The sender's choice in a base transfer, 0 to 127, at an allowed width: which of the receiver's two pads it must get there.
+   It is 1 minus the side that the path takes at that level. */
+static inline unsigned softspoken_base_choice(uint32_t width, const uint8_t delta[SOFTSPOKEN_DELTA_BYTES], uint32_t transfer) {
+    uint32_t level = transfer % width, bit = transfer - level + (width - 1 - level);
+    return 1u ^ (delta[bit / 8] >> bit % 8 & 1u);
+}
+
+/* The receiver's setup.
+   Refusals, in this order: ERR_WIDTH, ERR_LENGTH.
+
+   roots      in, secret: SOFTSPOKEN_ROOTS_BYTES(width), drawn at random; 32 for each tree, in tree order. The receiver
+              keeps them for every batch.
+   base_pads  in, secret: SOFTSPOKEN_RECEIVER_BASE_PADS_BYTES. For each base transfer, in order, its pad 0 and its pad 1.
+   message    out, sent: SOFTSPOKEN_SETUP_MESSAGE_BYTES. When done: for each base transfer, in order, and for side 0 (left)
+              and then 1, the sum of all children of that side made at that level of the tree, + the base pad of that
+              number. */
 uint32_t softspoken_receiver_setup(uint32_t width, const uint8_t *roots, size_t roots_len, const uint8_t *base_pads,
                                    size_t base_pads_len, uint8_t *message, size_t message_len);
 
-/* The sender's setup.
+/* The sender's setup. It can't notice a wrong message, or pads of other base transfers: it is done then too, and the
+   siblings are no nodes of the receiver's trees.
+   Refusals, in this order: ERR_WIDTH, ERR_LENGTH.
 
-   delta      16 bytes in: the sender's secret, which it keeps for every batch.
-   base_pads  4096 bytes in: for each base transfer, in order, the one pad that the sender received, 32 bytes: the pad numbered 1 minus
-              the path's bit. So in transfer i * k + l its choice is 1 minus bit i * k + (k - 1 - l) of delta. Secret.
-   message    8192 bytes in: what the receiver's setup wrote. A wrong one can't be noticed here and is accepted; the siblings are
-              then no nodes of the receiver's trees.
-   siblings   4096 bytes out: for each base transfer, in order, the node beside the path. The sender keeps them, secret, for every
-              batch. */
+   delta      in, secret: SOFTSPOKEN_DELTA_BYTES, drawn at random before the base transfers. Kept for every batch.
+   base_pads  in, secret: SOFTSPOKEN_SENDER_BASE_PADS_BYTES. For each base transfer, in order, the pad numbered
+              softspoken_base_choice(width, delta, transfer).
+   message    in, sent: SOFTSPOKEN_SETUP_MESSAGE_BYTES, from the receiver's setup of the same width.
+   siblings   out, secret: SOFTSPOKEN_SIBLINGS_BYTES. When done: for each base transfer, in order, the node beside the
+              path at that level: the masked total of its side + the base pad + all children of that side that can be
+              made from the siblings above. Kept for every batch. */
 uint32_t softspoken_sender_setup(uint32_t width, const uint8_t *delta, size_t delta_len, const uint8_t *base_pads,
                                  size_t base_pads_len, const uint8_t *message, size_t message_len, uint8_t *siblings,
                                  size_t siblings_len);
 
-/* Opens a session, whatever the record held. The only refusal is SOFTSPOKEN_WIDTH.
+/* Opens a session, whatever the record held. Open once for a setup: opening again lets batch numbers be used again, which
+   give the same choices and rows again, and lets a receiver whose check failed guess again at the same delta.
+   Refusals: ERR_WIDTH.
 
-   record     out: a ready record of the width, last 0, blocks 0. */
+   record     when done: width as given, last 0, blocks 0, stage ready. */
 uint32_t softspoken_open(struct softspoken_record *record, uint32_t width);
 
-/* The receiver's start of a batch. The record must be ready. Below, n = 128 / width is the number of trees, and L is the length of a
-   column of that many blocks.
+/* ---- A batch. A column has SOFTSPOKEN_CHOICES_BYTES(blocks) bytes; its row j is at byte j / 8, weight 2^(j % 8). A table
+   has 128 columns, one after the other; column i * width + b belongs to tree i and its bit b. A row value gathers a row's bit
+   of all 128 columns in 16 bytes, ordered as in delta. Transfer j is row j; the rows of the last block get no pads. */
 
-   record     when done, last and blocks are the ones given, and the stage is open.
-   roots      32 * n bytes in: the nodes of the receiver's setup.
-   batch      above the record's last, so a number is never used twice.
-   choices    L bytes out: the choice bit of every row. Secret.
-   table      128 * L bytes out: the receiver's table. Secret.
-   correction (n - 1) * L bytes out: for each tree but the first. To be sent to the sender. */
+/* The choice bit of a row. */
+static inline unsigned softspoken_choice(const uint8_t *choices, size_t row) {
+    return choices[row / 8] >> row % 8 & 1u;
+}
+
+/* The receiver's start of a batch, on a ready record. The width is the record's.
+   Refusals, in this order: ERR_WIDTH; ERR_STAGE unless ready; ERR_BATCH if batch is 0 or not above last; ERR_BLOCKS;
+   ERR_LENGTH.
+
+   record     when done: last and blocks are those given, stage open; the width stays.
+   roots      in, secret: SOFTSPOKEN_ROOTS_BYTES(width), those of the setup.
+   batch      1 to 4294967295; both sides give the same.
+   blocks     1 to 15; both sides give the same.
+   choices    out, secret: SOFTSPOKEN_CHOICES_BYTES(blocks). When done: a choice bit for every row, the sum of the streams of
+              all leaves of tree 0. So the bits are as random as the roots.
+   table      out, secret: SOFTSPOKEN_TABLE_BYTES(blocks). When done: for tree i, bit b, the sum of the streams of the leaves
+              whose number has bit b.
+   correction out, sent: SOFTSPOKEN_CORRECTION_BYTES(width, blocks). When done: for each tree from 1 on, the sum of the
+              streams of all its leaves, + choices. */
 uint32_t softspoken_receiver_start(struct softspoken_record *record, const uint8_t *roots, size_t roots_len, uint32_t batch,
                                    uint32_t blocks, uint8_t *choices, size_t choices_len, uint8_t *table, size_t table_len,
                                    uint8_t *correction, size_t correction_len);
 
-/* The sender's correction of a batch, with the same conditions and the same setting of the record.
+/* The sender's correction of a batch, on a ready record. A wrong correction isn't noticed here, but by the verify.
+   Refusals, in this order: ERR_WIDTH; ERR_STAGE unless ready; ERR_BATCH if batch is 0 or not above last; ERR_BLOCKS;
+   ERR_LENGTH.
 
-   siblings   4096 bytes in: the nodes of the sender's setup.
-   delta      16 bytes in: the sender's secret.
-   batch, blocks  those of the receiver's start.
-   correction (n - 1) * L bytes in: what the receiver's start wrote. A wrong one isn't noticed here; the verify accepts it only where the
-              errors in what the receiver sent cancel in every column (docs/THEOREMS.md, demand 3).
-   table      128 * L bytes out: the sender's table. Secret. If both sides are honest, its row j is the receiver's row j, plus delta
-              where choice j is 1. */
+   record     when done: last and blocks are those given, stage open; the width stays.
+   siblings   in, secret: SOFTSPOKEN_SIBLINGS_BYTES, those of the setup.
+   delta      in, secret: SOFTSPOKEN_DELTA_BYTES, that of the setup.
+   batch, blocks  as in the receiver's start.
+   correction in, sent: SOFTSPOKEN_CORRECTION_BYTES(width, blocks), from the receiver's start.
+   table      out, secret: SOFTSPOKEN_TABLE_BYTES(blocks). When done: for tree i, bit b, the sum of the streams of the leaves
+              below the siblings whose number, exclusive or delta's number for the tree, has bit b; + the tree's correction
+              where delta has the bit (tree 0 has none). If both sides are honest, row value j is the receiver's row value
+              j, + delta where choice j is 1. */
 uint32_t softspoken_sender_correct(struct softspoken_record *record, const uint8_t *siblings, size_t siblings_len,
                                    const uint8_t *delta, size_t delta_len, uint32_t batch, uint32_t blocks,
                                    const uint8_t *correction, size_t correction_len, uint8_t *table, size_t table_len);
 
-/* The receiver's answer to the sender's key, which ends the batch. The record must be open. Below, P is the record's blocks, and L is
-   the length of a column of that many.
+/* The receiver's answer to the sender's key, which ends the batch. The record must be open; blocks and batch number are the
+   record's. A batch must be answered for one key only: the record sees to that, as long as it is not set back.
+   Refusals, in this order: ERR_WIDTH; ERR_STAGE unless open; ERR_BATCH if last is 0; ERR_BLOCKS; ERR_LENGTH.
 
-   record     when done, blocks is 0, and the stage is ready.
-   key        any 64-bit number: the sender draws it at random, and tells it once the correction has arrived.
-   choices    L bytes in, and
-   table      128 * L bytes in: what the receiver's start wrote.
-   message    1032 bytes out: the fold of the choices and of each column. To be sent to the sender.
-   pads       2048 * P bytes out: the receiver's pad of each row, 32 bytes each. Secret. */
+   record     when done: blocks 0, stage ready; width and last stay.
+   key        from the sender: any number.
+   choices    in, secret: SOFTSPOKEN_CHOICES_BYTES(blocks), and
+   table      in, secret: SOFTSPOKEN_TABLE_BYTES(blocks): those of the receiver's start.
+   message    out, sent: SOFTSPOKEN_CHECK_MESSAGE_BYTES. When done: under the key, the fold of the choices, then that of each
+              column of the table, 8 bytes each.
+   pads       out, secret: SOFTSPOKEN_RECEIVER_PADS_BYTES(blocks). When done: at 32 * j the pad of row value j. If both sides
+              are honest, it is the sender's pad of transfer j that softspoken_choice(choices, j) numbers. */
 uint32_t softspoken_receiver_answer(struct softspoken_record *record, uint64_t key, const uint8_t *choices, size_t choices_len,
                                     const uint8_t *table, size_t table_len, uint8_t *message, size_t message_len, uint8_t *pads,
                                     size_t pads_len);
 
-/* The sender's verify of the check message, which ends the batch. The record must be open. A message that fails the check gives
-   SOFTSPOKEN_CHECK, closes the record and writes nothing else.
+/* The sender's verify of the check message, which ends the batch. The record must be open; blocks and batch number are the
+   record's. The check passes exactly when in every column c the sent fold of the column + the fold of the table's column is
+   the sent fold of the choices where delta has bit c, and 0 elsewhere. So an honest receiver passes; and after an honest
+   setup a tree whose folded error isn't 0 passes for at most one value of its bits of delta, whatever was sent. All columns
+   are looked at before the answer, which tells none from another.
+   Refusals, in this order: ERR_WIDTH; ERR_STAGE unless open; ERR_BATCH if last is 0; ERR_BLOCKS; ERR_LENGTH; ERR_CHECK.
 
-   record     when done, blocks is 0, and the stage is ready. When the check failed, the stage is closed.
-   key        the one that the receiver answered.
-   table      128 * L bytes in: what the sender's correction wrote.
-   delta      16 bytes in: the sender's secret.
-   message    1032 bytes in: what the receiver's answer wrote.
-   pads       4096 * P bytes out: for each row its pad 0 and then its pad 1, 32 bytes each. If both sides are honest, the receiver has
-              the one that its choice bit numbers. Secret. */
+   record     when done: blocks 0, stage ready; width and last stay. After ERR_CHECK: stage closed, all else stays.
+   key        drawn at random once the correction has come, and then told to the receiver: any number.
+   table      in, secret: SOFTSPOKEN_TABLE_BYTES(blocks), that of the sender's correction.
+   delta      in, secret: SOFTSPOKEN_DELTA_BYTES, that of the setup.
+   message    in, sent: SOFTSPOKEN_CHECK_MESSAGE_BYTES, from the receiver's answer.
+   pads       out, secret: SOFTSPOKEN_SENDER_PADS_BYTES(blocks). When done: for transfer j, pad 0 at 64 * j, the pad of row
+              value j, and pad 1 at 64 * j + 32, that of row value j + delta. */
 uint32_t softspoken_sender_verify(struct softspoken_record *record, uint64_t key, const uint8_t *table, size_t table_len,
                                   const uint8_t *delta, size_t delta_len, const uint8_t *message, size_t message_len,
                                   uint8_t *pads, size_t pads_len);
+
+#ifdef __cplusplus
+}
+#endif
 
 #endif

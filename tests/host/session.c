@@ -73,37 +73,37 @@ static void refusals(struct call c, struct softspoken_record r) {
     const int opens = c.step == START || c.step == CORRECT;
     for (int at = 0; at < 4; at++) {
         c.n[at]--;
-        refused(c, r, SOFTSPOKEN_LENGTH);
+        refused(c, r, SOFTSPOKEN_ERR_LENGTH);
         c.n[at] += 2;
-        refused(c, r, SOFTSPOKEN_LENGTH);
+        refused(c, r, SOFTSPOKEN_ERR_LENGTH);
         c.n[at]--;
     }
     c.n[3]--;
     *(opens ? &c.blocks : &r.blocks) = 16;
-    refused(c, r, SOFTSPOKEN_BLOCKS);
+    refused(c, r, SOFTSPOKEN_ERR_BLOCKS);
     *(opens ? &c.blocks : &r.blocks) = 0;
-    refused(c, r, SOFTSPOKEN_BLOCKS);
+    refused(c, r, SOFTSPOKEN_ERR_BLOCKS);
     *(opens ? &c.number : &r.last) = 0;
-    refused(c, r, SOFTSPOKEN_BATCH);
+    refused(c, r, SOFTSPOKEN_ERR_BATCH);
     if (opens) {
         c.number = r.last;
-        refused(c, r, SOFTSPOKEN_BATCH);
+        refused(c, r, SOFTSPOKEN_ERR_BATCH);
     }
-    r.stage = opens ? SOFTSPOKEN_OPEN : SOFTSPOKEN_READY;
-    refused(c, r, SOFTSPOKEN_STAGE);
-    r.stage = SOFTSPOKEN_CLOSED;
-    refused(c, r, SOFTSPOKEN_STAGE);
+    r.stage = opens ? SOFTSPOKEN_STAGE_OPEN : SOFTSPOKEN_STAGE_READY;
+    refused(c, r, SOFTSPOKEN_ERR_STAGE);
+    r.stage = SOFTSPOKEN_STAGE_CLOSED;
+    refused(c, r, SOFTSPOKEN_ERR_STAGE);
     r.width = 3;
-    refused(c, r, SOFTSPOKEN_WIDTH);
+    refused(c, r, SOFTSPOKEN_ERR_WIDTH);
 }
 
 /* One wrong bit of the message closes the session; every step is then refused, until it is opened anew. */
 static void closes(const struct call *verify, struct softspoken_record r) {
     lent.message[8] ^= 1;
     const struct ranges before = lent;
-    const struct softspoken_record closed = {r.width, r.last, r.blocks, SOFTSPOKEN_CLOSED}, new = {WIDTH, 0, 0, SOFTSPOKEN_READY};
-    compare(verify, &r, SOFTSPOKEN_CHECK, closed, &before);
-    for (enum step step = START; step <= VERIFY; step++) refused(call_of(step, 7, verify->blocks, verify->key), r, SOFTSPOKEN_STAGE);
+    const struct softspoken_record closed = {r.width, r.last, r.blocks, SOFTSPOKEN_STAGE_CLOSED}, new = {WIDTH, 0, 0, SOFTSPOKEN_STAGE_READY};
+    compare(verify, &r, SOFTSPOKEN_ERR_CHECK, closed, &before);
+    for (enum step step = START; step <= VERIFY; step++) refused(call_of(step, 7, verify->blocks, verify->key), r, SOFTSPOKEN_ERR_STAGE);
     expect(softspoken_open(&r, WIDTH) == SOFTSPOKEN_DONE && !memcmp(&r, &new, sizeof r), "open", "a closed session isn't opened anew");
     lent.message[8] ^= 1;
 }
@@ -142,10 +142,10 @@ static void batch(FILE *f, struct softspoken_record records[2]) {
 /* Opens a session on a record that holds other numbers; other widths are refused and leave it. */
 static void opens(struct softspoken_record *r) {
     const uint32_t not_allowed[] = {0, 3, 5, 16, UINT32_MAX};
-    const struct softspoken_record any = {3, 5, 77, SOFTSPOKEN_CLOSED}, new = {WIDTH, 0, 0, SOFTSPOKEN_READY};
+    const struct softspoken_record any = {3, 5, 77, SOFTSPOKEN_STAGE_CLOSED}, new = {WIDTH, 0, 0, SOFTSPOKEN_STAGE_READY};
     *r = any;
     for (int i = 0; i < 5; i++)
-        expect(softspoken_open(r, not_allowed[i]) == SOFTSPOKEN_WIDTH && !memcmp(r, &any, sizeof any), "open", "a width is not refused");
+        expect(softspoken_open(r, not_allowed[i]) == SOFTSPOKEN_ERR_WIDTH && !memcmp(r, &any, sizeof any), "open", "a width is not refused");
     expect(softspoken_open(r, WIDTH) == SOFTSPOKEN_DONE && !memcmp(r, &new, sizeof new), "open", "another record");
 }
 
@@ -162,8 +162,8 @@ int main(int argc, char **argv) {
     batch(f, records);
     batch(f, records);
     /* the second batch has the highest number, and none is above it */
-    refused(call_of(START, UINT32_MAX, 1, 0), records[0], SOFTSPOKEN_BATCH);
-    refused(call_of(CORRECT, UINT32_MAX, 1, 0), records[1], SOFTSPOKEN_BATCH);
+    refused(call_of(START, UINT32_MAX, 1, 0), records[0], SOFTSPOKEN_ERR_BATCH);
+    refused(call_of(CORRECT, UINT32_MAX, 1, 0), records[1], SOFTSPOKEN_ERR_BATCH);
     expect(fgetc(f) == EOF, "stored", "the file is too long");
     fclose(f);
     printf("host: %u calls of the steps of a session, %u differences\n", calls, wrong);

@@ -39,6 +39,14 @@ static void take(FILE *f, uint8_t *p, size_t n) {
     expect(fread(p, 1, n, f) == n, "stored", 0, "the file is too short");
 }
 
+/* The sender has the receiver's message, and the stored pads are those that the header's choices give. */
+static void honest_inputs(uint32_t width, const struct receiver *r, struct sender *s) {
+    memcpy(s->message, r->message, 8192);
+    for (uint32_t t = 0; t < SOFTSPOKEN_BASE_TRANSFERS; t++)
+        expect(!memcmp(s->base_pads + 32 * t, r->base_pads + 64 * t + 32 * softspoken_base_choice(width, s->delta, t), 32), "sender", width,
+               "another choice in a base transfer");
+}
+
 /* The stored cases: the receiver's, then the sender's on its message, then the sender's on any message. */
 static void done(FILE *f) {
     const size_t lengths[4] = {16, 4096, 8192, 4096};
@@ -56,7 +64,7 @@ static void done(FILE *f) {
         for (int honest = 1; honest >= 0; honest--) {
             take(f, s.delta, 16);
             take(f, s.base_pads, 4096);
-            if (honest) memcpy(s.message, r.message, 8192);
+            if (honest) honest_inputs(widths[w], &r, &s);
             else take(f, s.message, 8192);
             take(f, siblings, 4096);
             sender(widths[w], lengths, SOFTSPOKEN_DONE, &s, siblings);
@@ -78,7 +86,7 @@ static void refused(uint32_t width, uint32_t answer) {
     const size_t receiver_lengths[3] = {32 * (128 / (width ? width : 1)), 8192, 8192}, sender_lengths[4] = {16, 4096, 8192, 4096};
     memset(&r, 0x5a, sizeof r);
     memset(&s, 0x5a, sizeof s);
-    for (int how = answer == SOFTSPOKEN_WIDTH ? 0 : 1; how <= 3; how++) {
+    for (int how = answer == SOFTSPOKEN_ERR_WIDTH ? 0 : 1; how <= 3; how++) {
         for (int at = 0; at < 3; at++) {
             size_t n[3];
             memcpy(n, receiver_lengths, sizeof n);
@@ -100,8 +108,8 @@ int main(int argc, char **argv) {
     if (!f) return 2;
     done(f);
     fclose(f);
-    for (int w = 0; w < 4; w++) refused(widths[w], SOFTSPOKEN_LENGTH);
-    for (int w = 0; w < 5; w++) refused(not_allowed[w], SOFTSPOKEN_WIDTH);
+    for (int w = 0; w < 4; w++) refused(widths[w], SOFTSPOKEN_ERR_LENGTH);
+    for (int w = 0; w < 5; w++) refused(not_allowed[w], SOFTSPOKEN_ERR_WIDTH);
     printf("host: %u calls of both setups, %u differences\n", calls, wrong);
     return wrong ? 1 : 0;
 }
