@@ -6,50 +6,36 @@
 #include <string.h>
 #include <valgrind/memcheck.h>
 
-static uint8_t secret[8192], base_pads[8192], nonce[12];
-static uint32_t table[512];
 static int failed;
+
+static void fail(const char *name, const char *what) {
+    printf("%s: %s\n", name, what);
+    failed = 1;
+}
+
+static void hide(const void *range, size_t n) { VALGRIND_MAKE_MEM_UNDEFINED(range, n); }
 
 /* The work reported so many jumps and addresses, each time that one was met. */
 static void expect_reports(const char *name, unsigned before, unsigned reports) {
-    if (VALGRIND_COUNT_ERRORS - before != reports) {
-        printf("%s: steered by a secret\n", name);
-        failed = 1;
-    }
+    if (VALGRIND_COUNT_ERRORS - before != reports) fail(name, "steered by a secret");
 }
 
-/* What it wrote still depends on the secret, so the marking was not lost on the way. The look counts as an error of its own. */
+/* What was written still depends on the secret, so the marking was not lost on the way. From here on all of it counts as secret. (The look
+   counts as an error of its own.) */
 static void expect_secret(const char *name, const void *out, size_t n) {
-    if (VALGRIND_CHECK_MEM_IS_DEFINED(out, n) == 0) {
-        printf("%s: the secret does not reach the output\n", name);
-        failed = 1;
-    }
+    if (VALGRIND_CHECK_MEM_IS_DEFINED(out, n) == 0) fail(name, "the secret does not reach the output");
+    hide(out, n);
 }
 
 /* What is public, and must hold nothing of a secret. */
 static void expect_public(const char *name, const void *out, size_t n) {
-    if (VALGRIND_CHECK_MEM_IS_DEFINED(out, n) != 0) {
-        printf("%s: a secret reaches what is public\n", name);
-        failed = 1;
-    }
+    if (VALGRIND_CHECK_MEM_IS_DEFINED(out, n) != 0) fail(name, "a secret reaches what is public");
 }
 
 /* Run as part of the work: an answer that depends on a secret is reported here. */
 static void expect_answer(const char *name, uint32_t answer, uint32_t expected) {
-    if (answer != expected) {
-        printf("%s: another answer\n", name);
-        failed = 1;
-    }
+    if (answer != expected) fail(name, "another answer");
 }
-
-#define RUN(name, work, out) \
-    do { \
-        memset(out, 0, sizeof out); \
-        unsigned before = VALGRIND_COUNT_ERRORS; \
-        work; \
-        expect_reports(name, before, 0); \
-        expect_secret(name, out, sizeof out); \
-    } while (0)
 
 /* A step whose answer is known, and the jumps in it that a secret may decide. */
 #define STEP(name, work, answer, reports) \
@@ -60,90 +46,152 @@ static void expect_answer(const char *name, uint32_t answer, uint32_t expected) 
     } while (0)
 #define DONE(name, work) STEP(name, work, SOFTSPOKEN_DONE, 0)
 
-/* Both sides, each step on what the one before it wrote. Roots, delta, base pads, siblings, choices, tables and pads are secret; the
+/* Both sides, each step on what the one before it wrote. Roots, delta, base pads, siblings, choices, tables, rows and pads are secret; the
    setup message, the correction and the check message, which are sent, count as secret here too. The records, the key, the numbers and
    the lengths are public. All base pads are 0, so that the setup is honest, and the check message is accepted, for any delta. */
 
+enum { MOST = SOFTSPOKEN_BLOCKS_MAX };
+#define RANGE(array) (array), sizeof(array)
+
 static const uint64_t key = 0x0123456789abcdef;
-static const uint8_t *const roots = secret, *const delta = secret + 4096;
-static uint8_t setup_message[8192], siblings[4096];
-static uint8_t choices[128], v[16384], correction[16256], w[16384], message[1032], mine[30720], both[61440];
+static uint8_t roots[SOFTSPOKEN_ROOTS_BYTES(1)], delta[SOFTSPOKEN_DELTA_BYTES];
+static uint8_t receiver_base_pads[SOFTSPOKEN_RECEIVER_BASE_PADS_BYTES], sender_base_pads[SOFTSPOKEN_SENDER_BASE_PADS_BYTES];
+static uint8_t setup_message[SOFTSPOKEN_SETUP_MESSAGE_BYTES], siblings[SOFTSPOKEN_SIBLINGS_BYTES];
+static uint8_t choices[SOFTSPOKEN_CHOICES_BYTES(MOST)], v[SOFTSPOKEN_TABLE_BYTES(MOST)], w[SOFTSPOKEN_TABLE_BYTES(MOST)];
+static uint8_t correction[SOFTSPOKEN_CORRECTION_BYTES(1, MOST)], message[SOFTSPOKEN_CHECK_MESSAGE_BYTES];
+static uint8_t mine[SOFTSPOKEN_RECEIVER_PADS_BYTES(MOST)], both[SOFTSPOKEN_SENDER_PADS_BYTES(MOST)];
 
 static void setups(uint32_t width) {
-    memset(setup_message, 0, sizeof setup_message); memset(siblings, 0, sizeof siblings);
-    DONE("receiver setup", softspoken_receiver_setup(width, roots, 4096 / width, base_pads, 8192, setup_message, 8192));
-    DONE("sender setup", softspoken_sender_setup(width, delta, 16, base_pads, 4096, setup_message, 8192, siblings, 4096));
-    expect_secret("receiver setup", setup_message, sizeof setup_message);
-    expect_secret("sender setup", siblings, sizeof siblings);
+    memset(setup_message, 0, sizeof setup_message);
+    memset(siblings, 0, sizeof siblings);
+    DONE("receiver setup",
+         softspoken_receiver_setup(width, roots, SOFTSPOKEN_ROOTS_BYTES(width), RANGE(receiver_base_pads), RANGE(setup_message)));
+    expect_secret("receiver setup", RANGE(setup_message));
+    DONE("sender setup", softspoken_sender_setup(width, RANGE(delta), RANGE(sender_base_pads), RANGE(setup_message), RANGE(siblings)));
+    expect_secret("sender setup", RANGE(siblings));
+}
+
+/* Both tables, the choices and the correction of a batch, and the records open. */
+static void begin(uint32_t width, uint32_t blocks, struct softspoken_record *receiver, struct softspoken_record *sender) {
+    const size_t len = SOFTSPOKEN_CHOICES_BYTES(blocks), table = SOFTSPOKEN_TABLE_BYTES(blocks);
+    const size_t sent = SOFTSPOKEN_CORRECTION_BYTES(width, blocks);
+    memset(choices, 0, len);
+    memset(v, 0, table);
+    memset(correction, 0, sent);
+    memset(w, 0, table);
+    DONE("open", softspoken_open(receiver, width));
+    DONE("open", softspoken_open(sender, width));
+    DONE("receiver start", softspoken_receiver_start(receiver, roots, SOFTSPOKEN_ROOTS_BYTES(width), 1, blocks, choices, len, v, table,
+                                                     correction, sent));
+    expect_public("receiver start", receiver, sizeof *receiver);
+    expect_secret("choices", choices, len);
+    expect_secret("receiver's table", v, table);
+    expect_secret("correction", correction, sent);
+    DONE("sender correction", softspoken_sender_correct(sender, RANGE(siblings), RANGE(delta), 1, blocks, correction, sent, w, table));
+    expect_public("sender correction", sender, sizeof *sender);
+    expect_secret("sender's table", w, table);
+}
+
+static void answer(uint32_t blocks, struct softspoken_record *receiver) {
+    const size_t len = SOFTSPOKEN_CHOICES_BYTES(blocks), table = SOFTSPOKEN_TABLE_BYTES(blocks);
+    const size_t pads = SOFTSPOKEN_RECEIVER_PADS_BYTES(blocks);
+    memset(message, 0, sizeof message);
+    memset(mine, 0, pads);
+    DONE("receiver answer", softspoken_receiver_answer(receiver, key, choices, len, v, table, RANGE(message), mine, pads));
+    expect_public("receiver answer", receiver, sizeof *receiver);
+    expect_secret("check message", RANGE(message));
+    expect_secret("receiver's pads", mine, pads);
 }
 
 /* The verify's answer is public and depends on secrets: one jump decides it, and only one, though there are 128 columns. The record and
    the answer must be public then, and a message with a wrong first or last fold is told in the same way, before a pad is written. */
-static void verify(struct softspoken_record open, size_t all, size_t pads) {
+static void verify(uint32_t blocks, const struct softspoken_record *open) {
+    const size_t table = SOFTSPOKEN_TABLE_BYTES(blocks), pads = SOFTSPOKEN_SENDER_PADS_BYTES(blocks);
     struct softspoken_record r;
-    for (size_t at = 8; at < 1032; at += 1016) {
-        r = open;
+    memset(both, 0, pads);
+    for (size_t at = 8; at < sizeof message; at += 8 * 127) {
+        r = *open;
         message[at] ^= 1;
-        STEP("refused check", softspoken_sender_verify(&r, key, w, all, delta, 16, message, 1032, both, pads), SOFTSPOKEN_CHECK, 1);
+        STEP("refused check", softspoken_sender_verify(&r, key, w, table, RANGE(delta), RANGE(message), both, pads), SOFTSPOKEN_ERR_CHECK, 1);
         message[at] ^= 1;
         expect_public("refused check", &r, sizeof r);
         expect_public("refused check", both, pads);
     }
-    r = open;
-    STEP("sender verify", softspoken_sender_verify(&r, key, w, all, delta, 16, message, 1032, both, pads), SOFTSPOKEN_DONE, 1);
+    r = *open;
+    STEP("sender verify", softspoken_sender_verify(&r, key, w, table, RANGE(delta), RANGE(message), both, pads), SOFTSPOKEN_DONE, 1);
     expect_public("sender verify", &r, sizeof r);
+    expect_secret("sender's pads", both, pads);
 }
 
 static void batch(uint32_t width, uint32_t blocks) {
-    size_t len = 8 * (blocks + 1), all = 128 * len, sent = all / width - len;
     struct softspoken_record receiver, sender;
-    memset(choices, 0, len); memset(v, 0, all); memset(correction, 0, sent); memset(w, 0, all);
-    memset(message, 0, sizeof message); memset(mine, 0, 2048 * blocks); memset(both, 0, 4096 * blocks);
-    DONE("open", softspoken_open(&receiver, width));
-    DONE("open", softspoken_open(&sender, width));
-    DONE("receiver start", softspoken_receiver_start(&receiver, roots, 4096 / width, 1, blocks, choices, len, v, all, correction, sent));
-    DONE("sender correction", softspoken_sender_correct(&sender, siblings, 4096, delta, 16, 1, blocks, correction, sent, w, all));
-    DONE("receiver answer", softspoken_receiver_answer(&receiver, key, choices, len, v, all, message, 1032, mine, 2048 * blocks));
-    expect_public("receiver answer", &receiver, sizeof receiver);
-    expect_public("sender correction", &sender, sizeof sender);
-    verify(sender, all, 4096 * blocks);
-    expect_secret("choices", choices, len);
-    expect_secret("receiver's table", v, all);
-    expect_secret("correction", correction, sent);
-    expect_secret("sender's table", w, all);
-    expect_secret("check message", message, sizeof message);
-    expect_secret("receiver's pads", mine, 2048 * blocks);
-    expect_secret("sender's pads", both, 4096 * blocks);
+    begin(width, blocks, &receiver, &sender);
+    answer(blocks, &receiver);
+    verify(blocks, &sender);
 }
 
-int main(int argc, char **argv) {
+/* The functions of the layers below, alone. */
+
+#define RUN(name, work, out) \
+    do { \
+        memset(out, 0, sizeof out); \
+        unsigned before = VALGRIND_COUNT_ERRORS; \
+        work; \
+        expect_reports(name, before, 0); \
+        expect_secret(name, RANGE(out)); \
+    } while (0)
+
+static void layers(void) {
+    static const uint8_t nonce[12];
+    static uint32_t table[512];
     uint8_t bytes[128];
     uint32_t words[64], keys[32];
     uint64_t folds[4], fold[1];
-    if (!RUNNING_ON_VALGRIND) return 2;
-    for (size_t i = 0; i < sizeof secret; i++) secret[i] = (uint8_t)(i * 167 + 13);
-    memcpy(keys, secret, sizeof keys);
+    memcpy(keys, roots, sizeof keys);
     bench_fold_table(key, table);
-    VALGRIND_MAKE_MEM_UNDEFINED(secret, sizeof secret);
-    VALGRIND_MAKE_MEM_UNDEFINED(base_pads, sizeof base_pads);
-    VALGRIND_MAKE_MEM_UNDEFINED(keys, sizeof keys);
-    if (argc > 1 && !strcmp(argv[1], "leak")) {
-        /* a planted leak, to see that the test can fail */
-        unsigned before = VALGRIND_COUNT_ERRORS;
-        if (bench_fold(3, secret, 16) & 1) nonce[0] = 1;
-        expect_reports("planted leak", before, 0);
-        return failed ? 9 : 0;
-    }
-    RUN("chacha20::one::block", bench_chacha20_one(secret, 1, nonce, bytes), bytes);
+    RUN("chacha20::one::block", bench_chacha20_one(roots, 1, nonce, bytes), bytes);
     RUN("chacha20::four::block", bench_chacha20_four(keys, 1, nonce, words), words);
-    RUN("sha256::one::digest", bench_sha256_one(secret, 200, bytes), bytes);
-    RUN("sha256::four::digest", bench_sha256_four(secret, bytes), bytes);
-    RUN("gf64::fold", fold[0] = bench_fold(key, secret, 128), fold);
-    RUN("gf64::fold_four", bench_fold_four(table, secret, 512, 128, folds), folds);
+    RUN("sha256::one::digest", bench_sha256_one(roots, 200, bytes), bytes);
+    RUN("sha256::four::digest", bench_sha256_four(roots, bytes), bytes);
+    RUN("gf64::fold", fold[0] = bench_fold(key, roots, 128), fold);
+    RUN("gf64::fold_four", bench_fold_four(table, roots, 512, 128, folds), folds);
+}
+
+/* Planted leaks, a jump and an address that a secret decides, to see that the test can fail. */
+
+__attribute__((noinline)) static int planted_jump(void) {
+    unsigned before = VALGRIND_COUNT_ERRORS;
+    if (bench_fold(3, roots, 16) & 1) puts("odd");
+    expect_reports("planted jump", before, 0);
+    return failed;
+}
+
+__attribute__((noinline)) static int planted_address(void) {
+    static const uint8_t table[16] = {1};
+    volatile uint8_t out;
+    unsigned before = VALGRIND_COUNT_ERRORS;
+    out = table[bench_fold(3, roots, 16) & 15];
+    (void)out;
+    expect_reports("planted address", before, 0);
+    return failed;
+}
+
+int main(int argc, char **argv) {
+    const char *planted = argc > 1 ? argv[1] : "";
+    if (!RUNNING_ON_VALGRIND) return 2;
+    for (size_t i = 0; i < sizeof roots; i++) roots[i] = (uint8_t)(i * 167 + 13);
+    for (size_t i = 0; i < sizeof delta; i++) delta[i] = (uint8_t)(i * 59 + 7);
+    hide(RANGE(roots));
+    hide(RANGE(delta));
+    hide(RANGE(receiver_base_pads));
+    hide(RANGE(sender_base_pads));
+    if (!strcmp(planted, "jump")) return planted_jump();
+    if (!strcmp(planted, "address")) return planted_address();
+    layers();
     for (uint32_t width = 1; width <= 8; width *= 2) {
         setups(width);
         batch(width, 1);
-        batch(width, 15);
+        batch(width, MOST);
     }
-    return failed ? 9 : 0;
+    return failed;
 }
