@@ -499,11 +499,10 @@ def vectors():
     return v
 
 
-def session_cases():
-    """What tests/host lends to the steps of a session of two batches at width 8, and what they must give: the roots, the siblings of an
-    honest setup and delta; of each batch its number, blocks and key, and of each step the answer, the record and what it writes."""
-    rng = random.Random(1032)
-    width = 8
+def session_cases(width):
+    """What tests/host lends to the steps of a session of two batches, and what they must give: the roots, the siblings of an honest
+    setup and delta; of each batch its number, blocks and key, and of each step the answer, the record and what it writes."""
+    rng = random.Random(1032 + width)
     roots, delta = rng.randbytes(setup.roots_length(width)), rng.randbytes(16)
     siblings = honest_siblings(width, delta, roots)
     out = roots + siblings + delta
@@ -600,8 +599,9 @@ def files():
         "crates/foldprint/stdout": gf64.foldprint(m3).encode(),
         "crates/demo/stdout": demo().encode(),
         "tests/host/setup.bin": setup_cases(),
-        "tests/host/session.bin": session_cases(),
     }
+    for width in setup.WIDTHS:
+        out["tests/host/session%d.bin" % width] = session_cases(width)
     for name, made in (("vectors", vectors()), ("batches", batches())):
         out["crates/%s/stdin" % name] = made.asked
         out["crates/%s/stdout" % name] = "".join(line + "\n" for line in made.lines).encode()

@@ -1,11 +1,11 @@
-/* Plays both sides of a session as a host program does, on the batches that the second implementation stored: after each call the
-   answer, the record and every byte of every range must be what that implementation gives. Before each step it is called with faults,
-   and must refuse and leave everything; a wrong check message must close the session. */
+/* Plays both sides of a session of width WIDTH as a host program does, on the batches that the second implementation stored: after each
+   call the answer, the record and every byte of every range must be what that implementation gives. Before each step it is called with
+   faults, and must refuse and leave everything; a wrong check message must close the session. */
 #include "../../include/softspoken.h"
 #include <stdio.h>
 #include <string.h>
 
-enum { WIDTH = 8, TREES = 128 / WIDTH, MOST_BLOCKS = 2, MOST_LENGTH = 8 * (MOST_BLOCKS + 1) };
+enum { TREES = 128 / WIDTH, MOST_BLOCKS = 2, MOST_LENGTH = 8 * (MOST_BLOCKS + 1) };
 enum step { START, CORRECT, ANSWER, VERIFY };
 
 /* All that both sides hold, with room for one byte more in each range, so that a length too large can be lent. */
@@ -166,6 +166,6 @@ int main(int argc, char **argv) {
     refused(call_of(CORRECT, UINT32_MAX, 1, 0), records[1], SOFTSPOKEN_ERR_BATCH);
     expect(fgetc(f) == EOF, "stored", "the file is too long");
     fclose(f);
-    printf("host: %u calls of the steps of a session, %u differences\n", calls, wrong);
+    printf("host: %u calls of the steps of a session of width %u, %u differences\n", calls, (unsigned)WIDTH, wrong);
     return wrong ? 1 : 0;
 }

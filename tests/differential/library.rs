@@ -1,0 +1,95 @@
+//! The library's seven functions, and the ranges that they are lent.
+//!
+//! Nothing holds these declarations to include/softspoken.h, except that a wrong one would show as a difference.
+
+use crate::call::{Call, Step};
+
+#[repr(C)]
+#[derive(Clone, Copy, Default, PartialEq)]
+pub struct Record {
+    pub width: u32,
+    pub last: u32,
+    pub blocks: u32,
+    pub stage: u32,
+}
+
+impl Record {
+    pub fn bytes(self) -> Vec<u8> {
+        [self.width, self.last, self.blocks, self.stage].map(u32::to_ne_bytes).concat()
+    }
+}
+
+#[rustfmt::skip]
+extern "C" {
+    fn softspoken_receiver_setup(width: u32, roots: *const u8, roots_len: usize, base_pads: *const u8, base_pads_len: usize,
+        message: *mut u8, message_len: usize) -> u32;
+    fn softspoken_sender_setup(width: u32, delta: *const u8, delta_len: usize, base_pads: *const u8, base_pads_len: usize,
+        message: *const u8, message_len: usize, siblings: *mut u8, siblings_len: usize) -> u32;
+    fn softspoken_open(record: *mut Record, width: u32) -> u32;
+    fn softspoken_receiver_start(record: *mut Record, roots: *const u8, roots_len: usize, batch: u32, blocks: u32,
+        choices: *mut u8, choices_len: usize, table: *mut u8, table_len: usize, correction: *mut u8, correction_len: usize) -> u32;
+    fn softspoken_sender_correct(record: *mut Record, siblings: *const u8, siblings_len: usize, delta: *const u8, delta_len: usize,
+        batch: u32, blocks: u32, correction: *const u8, correction_len: usize, table: *mut u8, table_len: usize) -> u32;
+    fn softspoken_receiver_answer(record: *mut Record, key: u64, choices: *const u8, choices_len: usize,
+        table: *const u8, table_len: usize, message: *mut u8, message_len: usize, pads: *mut u8, pads_len: usize) -> u32;
+    fn softspoken_sender_verify(record: *mut Record, key: u64, table: *const u8, table_len: usize, delta: *const u8, delta_len: usize,
+        message: *const u8, message_len: usize, pads: *mut u8, pads_len: usize) -> u32;
+}
+
+/// Bytes that a call is lent, between guard bytes, in an allocation of their own. So a pointer to them is never dangling, even where
+/// their length is 0; two never overlap; and what is written beside them is seen.
+#[derive(Clone, PartialEq)]
+pub struct Lent {
+    pub all: Vec<u8>,
+    pub before: usize,
+    pub length: usize,
+}
+
+impl Lent {
+    const GUARD: usize = 64;
+
+    /// The shift, below 16, lets the ranges begin at any alignment.
+    pub fn new(content: &[u8], shift: usize) -> Lent {
+        let before = Lent::GUARD + shift;
+        let mut all: Vec<u8> = (0..before + content.len() + Lent::GUARD).map(|i| 0xc5 ^ i as u8).collect();
+        all[before..before + content.len()].copy_from_slice(content);
+        Lent {
+            all,
+            before,
+            length: content.len(),
+        }
+    }
+
+    /// The pointer is to the range, but is allowed the whole allocation: a write to the guards is then a difference and no worse.
+    fn parts(&mut self) -> (*mut u8, usize) {
+        (self.all.as_mut_ptr().wrapping_add(self.before), self.length)
+    }
+}
+
+/// Lends the ranges and a copy of the record, which must be aligned as its words are; the answer.
+pub fn made(call: &Call, record: &mut Lent, ranges: &mut [Lent]) -> u32 {
+    let Call {
+        width, batch, blocks, key, ..
+    } = *call;
+    assert!(record.length == 16 && record.before % 4 == 0);
+    let mut words: Vec<u32> = record.all.chunks(4).map(|x| u32::from_ne_bytes(x.try_into().unwrap())).collect();
+    let at: *mut Record = words.as_mut_ptr().wrapping_add(record.before / 4).cast();
+    let r: Vec<(*mut u8, usize)> = ranges.iter_mut().map(Lent::parts).collect();
+    // The pointers are to live allocations, each its own, with as many bytes as the length says; r[i] panics where a range is missing.
+    #[rustfmt::skip]
+    let answer = unsafe {
+        match call.step {
+            Step::ReceiverSetup => softspoken_receiver_setup(width, r[0].0, r[0].1, r[1].0, r[1].1, r[2].0, r[2].1),
+            Step::SenderSetup => softspoken_sender_setup(width, r[0].0, r[0].1, r[1].0, r[1].1, r[2].0, r[2].1, r[3].0, r[3].1),
+            Step::Open => softspoken_open(at, width),
+            Step::ReceiverStart => softspoken_receiver_start(at, r[0].0, r[0].1, batch, blocks,
+                r[1].0, r[1].1, r[2].0, r[2].1, r[3].0, r[3].1),
+            Step::SenderCorrect => softspoken_sender_correct(at, r[0].0, r[0].1, r[1].0, r[1].1, batch, blocks,
+                r[2].0, r[2].1, r[3].0, r[3].1),
+            Step::ReceiverAnswer => softspoken_receiver_answer(at, key, r[0].0, r[0].1, r[1].0, r[1].1, r[2].0, r[2].1, r[3].0, r[3].1),
+            Step::SenderVerify => softspoken_sender_verify(at, key, r[0].0, r[0].1, r[1].0, r[1].1, r[2].0, r[2].1, r[3].0, r[3].1),
+        }
+    };
+    record.all = words.into_iter().flat_map(u32::to_ne_bytes).collect();
+    answer
+}

@@ -1,0 +1,323 @@
+//! A batch's steps, for any inputs: paper 01, 'Trees and streams', 'Folding and pads' and 'Steps and their turning away'.
+//!
+//! The names are those of setup.rs. Of the paper's letters, u_0 is the choices, V the receiver's table and W the sender's.
+
+use super::setup::{bit, children, delta_of, node_at, path, xor_into, Node, DONE, LENGTH, NODE, TRANSFERS, WIDTH, WIDTHS};
+use super::{chacha20, gf64, sha256};
+use crate::library::Record;
+
+pub const STAGE: u32 = 2;
+pub const BATCH: u32 = 3;
+pub const BLOCKS: u32 = 4;
+pub const CHECK: u32 = 6;
+
+pub const READY: u32 = 0;
+pub const OPEN: u32 = 1;
+pub const CLOSED: u32 = 2;
+
+pub fn column_length(blocks: usize) -> usize {
+    8 * (blocks + 1)
+}
+
+// Leaves and their streams. A tree is a list of pairs: a node's or leaf's number in its depth, and the node or the leaf's stream.
+
+type Nodes = Vec<(usize, Node)>;
+type Streams = Vec<(usize, Vec<u8>)>;
+
+/// The numbered nodes one depth further down.
+fn below(nodes: &Nodes) -> Nodes {
+    let mut out = vec![];
+    for (number, node) in nodes {
+        let [left, right] = children(node);
+        out.extend([(2 * number, left), (2 * number + 1, right)]);
+    }
+    out
+}
+
+/// Every leaf of a tree.
+fn receiver_leaves(width: usize, root: Node) -> Nodes {
+    (0..width).fold(vec![(0, root)], |nodes, _| below(&nodes))
+}
+
+/// The leaves that the nodes beside the path of d lead to: all but the one at the path's end.
+fn sender_leaves(width: usize, d: usize, siblings: &[u8]) -> Nodes {
+    let (mut nodes, mut at) = (vec![], 0);
+    for (level, bit) in path(width, d).into_iter().enumerate() {
+        nodes = below(&nodes);
+        nodes.push((2 * at + 1 - bit, node_at(siblings, level)));
+        at = 2 * at + bit;
+    }
+    nodes
+}
+
+/// The pairs of a leaf's number y and its stream F(y).
+fn streams(leaves: &Nodes, batch: u32, length: usize) -> Streams {
+    let stream = |node| {
+        let halves = [0, 1].map(|counter| chacha20::block(node, counter, &chacha20::nonce(1, batch)));
+        halves.concat()[..length].to_vec()
+    };
+    leaves.iter().map(|(y, node)| (*y, stream(node))).collect()
+}
+
+// Sums and columns of one tree.
+
+/// The sum of F(y) over the leaves that are asked for.
+fn sum(tree: &Streams, length: usize, asked: impl Fn(usize) -> bool) -> Vec<u8> {
+    let mut out = vec![0; length];
+    tree.iter()
+        .filter(|(y, _)| asked(*y))
+        .for_each(|(_, stream)| xor_into(&mut out, stream));
+    out
+}
+
+fn receiver_column(tree: &Streams, length: usize, b: usize) -> Vec<u8> {
+    sum(tree, length, |y| y >> b & 1 == 1)
+}
+
+fn sender_column(tree: &Streams, length: usize, d: usize, b: usize) -> Vec<u8> {
+    sum(tree, length, |y| y != d && (y ^ d) >> b & 1 == 1)
+}
+
+// What the steps write.
+
+/// The choices, the receiver's table and the correction.
+fn receiver_batch(width: usize, roots: &[u8], batch: u32, length: usize) -> Vec<Vec<u8>> {
+    let (mut choices, mut table, mut correction) = (vec![], vec![], vec![]);
+    for i in 0..TRANSFERS / width {
+        let tree = streams(&receiver_leaves(width, node_at(roots, i)), batch, length);
+        let mut total = sum(&tree, length, |_| true);
+        if i == 0 {
+            choices = total;
+        } else {
+            xor_into(&mut total, &choices);
+            correction.extend(total);
+        }
+        (0..width).for_each(|b| table.extend(receiver_column(&tree, length, b)));
+    }
+    vec![choices, table, correction]
+}
+
+fn sender_table(width: usize, siblings: &[u8], delta: &[u8], batch: u32, length: usize, correction: &[u8]) -> Vec<u8> {
+    let mut out = vec![];
+    for i in 0..TRANSFERS / width {
+        let d = delta_of(width, delta, i);
+        let tree = streams(&sender_leaves(width, d, &siblings[NODE * width * i..]), batch, length);
+        for b in 0..width {
+            let mut column = sender_column(&tree, length, d, b);
+            if i > 0 && d >> b & 1 == 1 {
+                xor_into(&mut column, &correction[length * (i - 1)..length * i]);
+            }
+            out.extend(column);
+        }
+    }
+    out
+}
+
+/// Bit j of each of the 128 columns.
+fn row(table: &[u8], length: usize, j: usize) -> u128 {
+    (0..TRANSFERS).map(|c| (bit(table, 8 * length * c + j) as u128) << c).sum()
+}
+
+fn pad(batch: u32, j: usize, value: u128) -> [u8; 32] {
+    let mut hashed = b"PADS".to_vec();
+    hashed.extend(u64::from(batch).to_le_bytes());
+    hashed.extend((j as u32).to_le_bytes());
+    hashed.extend(value.to_le_bytes());
+    sha256::digest(&hashed)
+}
+
+fn receiver_pads(batch: u32, blocks: usize, table: &[u8]) -> Vec<u8> {
+    (0..64 * blocks)
+        .flat_map(|j| pad(batch, j, row(table, column_length(blocks), j)))
+        .collect()
+}
+
+/// Pad 0 before pad 1 in each row.
+fn sender_pads(batch: u32, blocks: usize, table: &[u8], delta: &[u8]) -> Vec<u8> {
+    let d = u128::from_le_bytes(delta.try_into().unwrap());
+    let rows = (0..64 * blocks).map(|j| (j, row(table, column_length(blocks), j)));
+    rows.flat_map(|(j, value)| [pad(batch, j, value), pad(batch, j, value ^ d)].concat())
+        .collect()
+}
+
+fn folds(key: u64, table: &[u8], length: usize) -> Vec<u64> {
+    table.chunks(length).map(|column| gf64::fold(key, &gf64::words(column))).collect()
+}
+
+fn check_message(key: u64, choices: &[u8], table: &[u8]) -> Vec<u8> {
+    folds(key, &[choices, table].concat(), choices.len())
+        .into_iter()
+        .flat_map(u64::to_le_bytes)
+        .collect()
+}
+
+/// The folds that the check asks for in the columns: in each the fold of W, plus the sent choice fold where delta has the bit.
+pub fn accepted_folds(key: u64, table: &[u8], delta: &[u8], choice_fold: u64) -> Vec<u64> {
+    let mine = folds(key, table, table.len() / TRANSFERS);
+    mine.iter()
+        .enumerate()
+        .map(|(c, fold)| fold ^ if bit(delta, c) == 1 { choice_fold } else { 0 })
+        .collect()
+}
+
+fn accepts(key: u64, table: &[u8], delta: &[u8], message: &[u8]) -> bool {
+    let sent = gf64::words(message);
+    sent[1..] == accepted_folds(key, table, delta, sent[0])
+}
+
+// The lengths that the ranges of a step must have, in the order of its parameters.
+
+/// Roots, choices, table, correction.
+pub fn start_lengths(width: usize, blocks: usize) -> Vec<usize> {
+    let (trees, length) = (TRANSFERS / width, column_length(blocks));
+    vec![NODE * trees, length, TRANSFERS * length, (trees - 1) * length]
+}
+
+/// Siblings, delta, correction, table.
+pub fn correct_lengths(width: usize, blocks: usize) -> Vec<usize> {
+    let (trees, length) = (TRANSFERS / width, column_length(blocks));
+    vec![NODE * TRANSFERS, TRANSFERS / 8, (trees - 1) * length, TRANSFERS * length]
+}
+
+/// Choices, table, message, pads.
+pub fn answer_lengths(blocks: usize) -> Vec<usize> {
+    let length = column_length(blocks);
+    vec![length, TRANSFERS * length, 8 * (1 + TRANSFERS), 2048 * blocks]
+}
+
+/// Table, delta, message, pads.
+pub fn verify_lengths(blocks: usize) -> Vec<usize> {
+    vec![TRANSFERS * column_length(blocks), TRANSFERS / 8, 8 * (1 + TRANSFERS), 4096 * blocks]
+}
+
+// The steps.
+
+/// The answer of a step on the refusals that the record and the numbers give: in this order, and then the lengths.
+fn refusal(record: Record, stage: u32, batch_right: bool, blocks: u32, lengths_right: impl Fn() -> bool) -> u32 {
+    if !WIDTHS.contains(&record.width) {
+        WIDTH
+    } else if record.stage != stage {
+        STAGE
+    } else if !batch_right {
+        BATCH
+    } else if !(1..=15).contains(&blocks) {
+        BLOCKS
+    } else if !lengths_right() {
+        LENGTH
+    } else {
+        DONE
+    }
+}
+
+/// The answer of a step that opens a batch.
+fn opening(record: Record, batch: u32, blocks: u32, lengths: impl Fn(usize, usize) -> Vec<usize>, given: [&[u8]; 4]) -> u32 {
+    let right = || given.map(<[u8]>::len).to_vec() == lengths(record.width as usize, blocks as usize);
+    refusal(record, READY, batch != 0 && batch > record.last, blocks, right)
+}
+
+/// The answer of a step that ends a batch, but for the check.
+fn ending(record: Record, lengths: impl Fn(usize) -> Vec<usize>, given: [&[u8]; 4]) -> u32 {
+    let right = || given.map(<[u8]>::len).to_vec() == lengths(record.blocks as usize);
+    refusal(record, OPEN, record.last != 0, record.blocks, right)
+}
+
+type Given = (u32, Record, Vec<Vec<u8>>);
+
+/// Whatever the record held.
+pub fn open_session(record: Record, width: u32) -> Given {
+    if !WIDTHS.contains(&width) {
+        return (WIDTH, record, vec![]);
+    }
+    (
+        DONE,
+        Record {
+            width,
+            last: 0,
+            blocks: 0,
+            stage: READY,
+        },
+        vec![],
+    )
+}
+
+pub fn receiver_start(record: Record, batch: u32, blocks: u32, ranges: [&[u8]; 4]) -> Given {
+    let answer = opening(record, batch, blocks, start_lengths, ranges);
+    if answer != DONE {
+        return (answer, record, vec![]);
+    }
+    let after = Record {
+        last: batch,
+        blocks,
+        stage: OPEN,
+        ..record
+    };
+    (
+        DONE,
+        after,
+        receiver_batch(record.width as usize, ranges[0], batch, column_length(blocks as usize)),
+    )
+}
+
+pub fn sender_correct(record: Record, batch: u32, blocks: u32, ranges: [&[u8]; 4]) -> Given {
+    let answer = opening(record, batch, blocks, correct_lengths, ranges);
+    if answer != DONE {
+        return (answer, record, vec![]);
+    }
+    let [siblings, delta, correction, _] = ranges;
+    let after = Record {
+        last: batch,
+        blocks,
+        stage: OPEN,
+        ..record
+    };
+    (
+        DONE,
+        after,
+        vec![sender_table(
+            record.width as usize,
+            siblings,
+            delta,
+            batch,
+            column_length(blocks as usize),
+            correction,
+        )],
+    )
+}
+
+pub fn receiver_answer(record: Record, key: u64, ranges: [&[u8]; 4]) -> Given {
+    let answer = ending(record, answer_lengths, ranges);
+    if answer != DONE {
+        return (answer, record, vec![]);
+    }
+    let [choices, table, ..] = ranges;
+    let after = Record {
+        blocks: 0,
+        stage: READY,
+        ..record
+    };
+    (
+        DONE,
+        after,
+        vec![
+            check_message(key, choices, table),
+            receiver_pads(record.last, record.blocks as usize, table),
+        ],
+    )
+}
+
+pub fn sender_verify(record: Record, key: u64, ranges: [&[u8]; 4]) -> Given {
+    let answer = ending(record, verify_lengths, ranges);
+    if answer != DONE {
+        return (answer, record, vec![]);
+    }
+    let [table, delta, message, _] = ranges;
+    if !accepts(key, table, delta, message) {
+        return (CHECK, Record { stage: CLOSED, ..record }, vec![]);
+    }
+    let after = Record {
+        blocks: 0,
+        stage: READY,
+        ..record
+    };
+    (DONE, after, vec![sender_pads(record.last, record.blocks as usize, table, delta)])
+}
