@@ -112,7 +112,8 @@ static void verify(uint32_t blocks, const struct softspoken_record *open) {
     for (size_t at = 8; at < sizeof message; at += 8 * 127) {
         r = *open;
         message[at] ^= 1;
-        STEP("refused check", softspoken_sender_verify(&r, key, w, table, RANGE(delta), RANGE(message), both, pads), SOFTSPOKEN_ERR_CHECK, 1);
+        STEP("refused check", softspoken_sender_verify(&r, key, w, table, RANGE(delta), RANGE(message), both, pads),
+             SOFTSPOKEN_ERR_CHECK, 1);
         message[at] ^= 1;
         expect_public("refused check", &r, sizeof r);
         expect_public("refused check", both, pads);

@@ -35,12 +35,16 @@ static void correct(void) {
     answer = softspoken_sender_correct(&sender, RANGE(siblings), RANGE(delta), 1, BLOCKS, correction,
                                        SOFTSPOKEN_CORRECTION_BYTES(width, BLOCKS), RANGE(w));
 }
-static void receiver_answer(void) { answer = softspoken_receiver_answer(&receiver, 27, RANGE(choices), RANGE(v), RANGE(message), RANGE(receiver_pads)); }
-static void verify(void) { answer = softspoken_sender_verify(&sender, 27, RANGE(w), RANGE(delta), RANGE(message), RANGE(sender_pads)); }
+static void end_receiver(void) {
+    answer = softspoken_receiver_answer(&receiver, 27, RANGE(choices), RANGE(v), RANGE(message), RANGE(receiver_pads));
+}
+static void end_sender(void) {
+    answer = softspoken_sender_verify(&sender, 27, RANGE(w), RANGE(delta), RANGE(message), RANGE(sender_pads));
+}
 
 static const struct { const char *name; void (*call)(void); } steps[] = {
-    {"receiver setup", receiver_setup}, {"sender setup", sender_setup}, {"open", open_receiver}, {"open", open_sender},
-    {"receiver start", start}, {"sender correct", correct}, {"receiver answer", receiver_answer}, {"sender verify", verify},
+    {"receiver setup", receiver_setup}, {"sender setup", sender_setup}, {"receiver open", open_receiver}, {"sender open", open_sender},
+    {"receiver start", start}, {"sender correct", correct}, {"receiver answer", end_receiver}, {"sender verify", end_sender},
 };
 
 static size_t taken(void (*call)(void)) {
@@ -58,15 +62,22 @@ static size_t taken(void (*call)(void)) {
     return sizeof stack - clean;
 }
 
+enum { STEPS = sizeof steps / sizeof *steps, WIDTHS = 4 };
+
 int main(void) {
+    size_t bytes[STEPS][WIDTHS];
     int failed = 0;
     for (size_t i = 0; i < sizeof roots; i++) roots[i] = (uint8_t)(i * 167 + 13);
     for (size_t i = 0; i < sizeof delta; i++) delta[i] = (uint8_t)(i * 59 + 7);
-    for (width = 1; width <= 8; width *= 2)
-        for (size_t s = 0; s < sizeof steps / sizeof *steps; s++) {
-            const size_t own = taken(nothing), bytes = taken(steps[s].call) - own;
-            printf("stack: %-15s width %u: %5zu bytes\n", steps[s].name, (unsigned)width, bytes);
-            if (answer != SOFTSPOKEN_DONE || bytes == 0 || bytes > LIMIT) failed = 1;
+    for (int w = 0; w < WIDTHS; w++)
+        for (int s = 0; s < STEPS; s++) {
+            const size_t own = taken(nothing);
+            width = 1u << w;
+            bytes[s][w] = taken(steps[s].call) - own;
+            if (answer != SOFTSPOKEN_DONE || bytes[s][w] == 0 || bytes[s][w] > LIMIT) failed = 1;
         }
+    puts("stack in bytes, at widths 1, 2, 4 and 8");
+    for (int s = 0; s < STEPS; s++)
+        printf("%-15s %6zu %6zu %6zu %6zu\n", steps[s].name, bytes[s][0], bytes[s][1], bytes[s][2], bytes[s][3]);
     return failed;
 }

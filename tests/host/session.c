@@ -101,7 +101,8 @@ static void refusals(struct call c, struct softspoken_record r) {
 static void closes(const struct call *verify, struct softspoken_record r) {
     lent.message[8] ^= 1;
     const struct ranges before = lent;
-    const struct softspoken_record closed = {r.width, r.last, r.blocks, SOFTSPOKEN_STAGE_CLOSED}, new = {WIDTH, 0, 0, SOFTSPOKEN_STAGE_READY};
+    const struct softspoken_record closed = {r.width, r.last, r.blocks, SOFTSPOKEN_STAGE_CLOSED};
+    const struct softspoken_record new = {WIDTH, 0, 0, SOFTSPOKEN_STAGE_READY};
     compare(verify, &r, SOFTSPOKEN_ERR_CHECK, closed, &before);
     for (enum step step = START; step <= VERIFY; step++) refused(call_of(step, 7, verify->blocks, verify->key), r, SOFTSPOKEN_ERR_STAGE);
     expect(softspoken_open(&r, WIDTH) == SOFTSPOKEN_DONE && !memcmp(&r, &new, sizeof r), "open", "a closed session isn't opened anew");
@@ -145,7 +146,8 @@ static void opens(struct softspoken_record *r) {
     const struct softspoken_record any = {3, 5, 77, SOFTSPOKEN_STAGE_CLOSED}, new = {WIDTH, 0, 0, SOFTSPOKEN_STAGE_READY};
     *r = any;
     for (int i = 0; i < 5; i++)
-        expect(softspoken_open(r, not_allowed[i]) == SOFTSPOKEN_ERR_WIDTH && !memcmp(r, &any, sizeof any), "open", "a width is not refused");
+        expect(softspoken_open(r, not_allowed[i]) == SOFTSPOKEN_ERR_WIDTH && !memcmp(r, &any, sizeof any), "open",
+               "a width is not refused");
     expect(softspoken_open(r, WIDTH) == SOFTSPOKEN_DONE && !memcmp(r, &new, sizeof new), "open", "another record");
 }
 
