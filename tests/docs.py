@@ -1,10 +1,13 @@
 #!/usr/bin/env python3
 """The documents say of files what stands there: a block after a line that names a file stands word for word in that file, a link leads to
-a file, a function written crate::name is in that crate, and so is a definition written crate: File.name."""
+a file, a function written crate::name is in that crate, and so is a definition written crate: File.name; and README's sizes are those that
+tests/sizes.py counts."""
 
 import pathlib
 import re
 import sys
+
+import sizes
 
 ROOT = pathlib.Path(__file__).resolve().parent.parent
 
@@ -25,7 +28,7 @@ def defined(crate, file, name):
 
 known = set(functions())
 failures = []
-seen = dict(blocks=0, links=0, functions=0, definitions=0)
+seen = dict(blocks=0, links=0, functions=0, definitions=0, sizes=0)
 
 
 def expect(kind, page, what, holds):
@@ -34,9 +37,20 @@ def expect(kind, page, what, holds):
         failures.append(f"{page.name}: {what}")
 
 
-for page in [ROOT / "README.md", *sorted((ROOT / "docs").rglob("*.md"))]:
+def check_sizes(page):
+    """Each file that must be believed has a row with its lines, and the sums stand in the text."""
+    text, believed = page.read_text(), sizes.believed()
+    rows = {name: int(lines) for name, lines in re.findall(r"^\|[^|]*\| `(crates/[^`]+)` \| (\d+) \|", text, re.M)}
+    for name in {**believed, **rows}:
+        expect("sizes", page, f"{name} has {believed.get(name)} lines to believe", rows.get(name) == believed.get(name))
+    flat = " ".join(text.split())
+    for words, count in sizes.sums().items():
+        expect("sizes", page, f"there are {count:,} {words}", f"{count:,} {words}" in flat)
+
+
+for page in [ROOT / "README.md", ROOT / "CONTRIBUTING.md", *sorted((ROOT / "docs").rglob("*.md"))]:
     text = page.read_text()
-    for name, block in re.findall(r"^`(crates/[^`]+)`:\n```\n(.*?)\n```$", text, re.M | re.S):
+    for name, block in re.findall(r"^`([^`\n]+)`:\n```\w*\n(.*?)\n```$", text, re.M | re.S):
         expect("blocks", page, f"a block is not in {name}", block in (ROOT / name).read_text())
     for target in re.findall(r"\]\(([^)#]+)\)", text):
         expect("links", page, f"no file {target}", "://" in target or (page.parent / target).exists())
@@ -45,6 +59,7 @@ for page in [ROOT / "README.md", *sorted((ROOT / "docs").rglob("*.md"))]:
             expect("functions", page, f"no function {name}", name in known)
         for crate, file, name in re.findall(r"`(\w+): (\w+)\.([\w⊕-]+)`", text):
             expect("definitions", page, f"no {name} in {crate}, {file}", defined(crate, file, name))
+check_sizes(ROOT / "README.md")
 failures += [f"no {kind} found" for kind, count in seen.items() if count == 0]
 for failure in failures:
     print(failure)
