@@ -94,7 +94,7 @@ enum softspoken_answer {
 enum softspoken_stage {
     SOFTSPOKEN_STAGE_READY = 0, /* for a new batch */
     SOFTSPOKEN_STAGE_OPEN = 1,  /* a batch is open */
-    SOFTSPOKEN_STAGE_CLOSED = 2 /* a check failed: every step but softspoken_open gets SOFTSPOKEN_ERR_STAGE */
+    SOFTSPOKEN_STAGE_CLOSED = 2 /* a check failed: every step on this record but softspoken_open is refused */
 };
 
 struct softspoken_record {
@@ -177,7 +177,8 @@ uint32_t softspoken_receiver_start(struct softspoken_record *record, const uint8
                                    uint32_t blocks, uint8_t *choices, size_t choices_len, uint8_t *table, size_t table_len,
                                    uint8_t *correction, size_t correction_len);
 
-/* The sender's correction of a batch, on a ready record. A wrong correction isn't noticed here, but by the verify.
+/* The sender's correction of a batch, on a ready record. The width is the record's. A wrong correction isn't noticed here; the
+   verify accepts it only where the errors in what the receiver sent cancel in every column (docs/THEOREMS.md, demand 3).
    Refusals, in this order: ERR_WIDTH; ERR_STAGE unless ready; ERR_BATCH if batch is 0 or not above last; ERR_BLOCKS;
    ERR_LENGTH.
 
@@ -213,8 +214,8 @@ uint32_t softspoken_receiver_answer(struct softspoken_record *record, uint64_t k
 /* The sender's verify of the check message, which ends the batch. The record must be open; blocks and batch number are the
    record's. The check passes exactly when in every column c the sent fold of the column + the fold of the table's column is
    the sent fold of the choices where delta has bit c, and 0 elsewhere. So an honest receiver passes; and after an honest
-   setup a tree whose folded error isn't 0 passes for at most one value of its bits of delta, whatever was sent. All columns
-   are looked at before the answer, which tells none from another.
+   setup, whatever was sent, a tree whose folded error isn't 0 (docs/THEOREMS.md, demand 3) passes for at most one value of
+   its bits of delta. All columns are looked at before the answer, which tells none from another.
    Refusals, in this order: ERR_WIDTH; ERR_STAGE unless open; ERR_BATCH if last is 0; ERR_BLOCKS; ERR_LENGTH; ERR_CHECK.
 
    record     when done: blocks 0, stage ready; width and last stay. After ERR_CHECK: stage closed, all else stays.

@@ -1,7 +1,7 @@
 /* No branch and no address may depend on a secret. Contracts can't say this and a mask in the source is not enough, so the compiled
    functions run under memcheck with every secret range marked undefined: a jump or an address that depends on one is reported. */
 #include "../bench/bench.h"
-#include "../include/softspoken.h"
+#include "ranges.h"
 #include <stdio.h>
 #include <string.h>
 #include <valgrind/memcheck.h>
@@ -48,18 +48,9 @@ static void expect_answer(const char *name, uint32_t answer, uint32_t expected) 
 
 /* Both sides, each step on what the one before it wrote. Roots, delta, base pads, siblings, choices, tables, rows and pads are secret; the
    setup message, the correction and the check message, which are sent, count as secret here too. The records, the key, the numbers and
-   the lengths are public. All base pads are 0, so that the setup is honest, and the check message is accepted, for any delta. */
-
-enum { MOST = SOFTSPOKEN_BLOCKS_MAX };
-#define RANGE(array) (array), sizeof(array)
+   the lengths are public. */
 
 static const uint64_t key = 0x0123456789abcdef;
-static uint8_t roots[SOFTSPOKEN_ROOTS_BYTES(1)], delta[SOFTSPOKEN_DELTA_BYTES];
-static uint8_t receiver_base_pads[SOFTSPOKEN_RECEIVER_BASE_PADS_BYTES], sender_base_pads[SOFTSPOKEN_SENDER_BASE_PADS_BYTES];
-static uint8_t setup_message[SOFTSPOKEN_SETUP_MESSAGE_BYTES], siblings[SOFTSPOKEN_SIBLINGS_BYTES];
-static uint8_t choices[SOFTSPOKEN_CHOICES_BYTES(MOST)], v[SOFTSPOKEN_TABLE_BYTES(MOST)], w[SOFTSPOKEN_TABLE_BYTES(MOST)];
-static uint8_t correction[SOFTSPOKEN_CORRECTION_BYTES(1, MOST)], message[SOFTSPOKEN_CHECK_MESSAGE_BYTES];
-static uint8_t mine[SOFTSPOKEN_RECEIVER_PADS_BYTES(MOST)], both[SOFTSPOKEN_SENDER_PADS_BYTES(MOST)];
 
 static void setups(uint32_t width) {
     memset(setup_message, 0, sizeof setup_message);
@@ -96,11 +87,11 @@ static void answer(uint32_t blocks, struct softspoken_record *receiver) {
     const size_t len = SOFTSPOKEN_CHOICES_BYTES(blocks), table = SOFTSPOKEN_TABLE_BYTES(blocks);
     const size_t pads = SOFTSPOKEN_RECEIVER_PADS_BYTES(blocks);
     memset(message, 0, sizeof message);
-    memset(mine, 0, pads);
-    DONE("receiver answer", softspoken_receiver_answer(receiver, key, choices, len, v, table, RANGE(message), mine, pads));
+    memset(receiver_pads, 0, pads);
+    DONE("receiver answer", softspoken_receiver_answer(receiver, key, choices, len, v, table, RANGE(message), receiver_pads, pads));
     expect_public("receiver answer", receiver, sizeof *receiver);
     expect_secret("check message", RANGE(message));
-    expect_secret("receiver's pads", mine, pads);
+    expect_secret("receiver's pads", receiver_pads, pads);
 }
 
 /* The verify's answer is public and depends on secrets: one jump decides it, and only one, though there are 128 columns. The record and
@@ -108,20 +99,20 @@ static void answer(uint32_t blocks, struct softspoken_record *receiver) {
 static void verify(uint32_t blocks, const struct softspoken_record *open) {
     const size_t table = SOFTSPOKEN_TABLE_BYTES(blocks), pads = SOFTSPOKEN_SENDER_PADS_BYTES(blocks);
     struct softspoken_record r;
-    memset(both, 0, pads);
+    memset(sender_pads, 0, pads);
     for (size_t at = 8; at < sizeof message; at += 8 * 127) {
         r = *open;
         message[at] ^= 1;
-        STEP("refused check", softspoken_sender_verify(&r, key, w, table, RANGE(delta), RANGE(message), both, pads),
+        STEP("refused check", softspoken_sender_verify(&r, key, w, table, RANGE(delta), RANGE(message), sender_pads, pads),
              SOFTSPOKEN_ERR_CHECK, 1);
         message[at] ^= 1;
         expect_public("refused check", &r, sizeof r);
-        expect_public("refused check", both, pads);
+        expect_public("refused check", sender_pads, pads);
     }
     r = *open;
-    STEP("sender verify", softspoken_sender_verify(&r, key, w, table, RANGE(delta), RANGE(message), both, pads), SOFTSPOKEN_DONE, 1);
+    STEP("sender verify", softspoken_sender_verify(&r, key, w, table, RANGE(delta), RANGE(message), sender_pads, pads), SOFTSPOKEN_DONE, 1);
     expect_public("sender verify", &r, sizeof r);
-    expect_secret("sender's pads", both, pads);
+    expect_secret("sender's pads", sender_pads, pads);
 }
 
 static void batch(uint32_t width, uint32_t blocks) {
@@ -180,8 +171,7 @@ __attribute__((noinline)) static int planted_address(void) {
 int main(int argc, char **argv) {
     const char *planted = argc > 1 ? argv[1] : "";
     if (!RUNNING_ON_VALGRIND) return 2;
-    for (size_t i = 0; i < sizeof roots; i++) roots[i] = (uint8_t)(i * 167 + 13);
-    for (size_t i = 0; i < sizeof delta; i++) delta[i] = (uint8_t)(i * 59 + 7);
+    fill_inputs();
     hide(RANGE(roots));
     hide(RANGE(delta));
     hide(RANGE(receiver_base_pads));

@@ -221,6 +221,25 @@ fn ending(record: Record, lengths: impl Fn(usize) -> Vec<usize>, given: [&[u8]; 
     refusal(record, OPEN, record.last != 0, record.blocks, right)
 }
 
+/// The record in a batch.
+fn opened(record: Record, batch: u32, blocks: u32) -> Record {
+    Record {
+        last: batch,
+        blocks,
+        stage: OPEN,
+        ..record
+    }
+}
+
+/// And after it.
+fn ended(record: Record) -> Record {
+    Record {
+        blocks: 0,
+        stage: READY,
+        ..record
+    }
+}
+
 type Given = (u32, Record, Vec<Vec<u8>>);
 
 /// Whatever the record held.
@@ -245,17 +264,8 @@ pub fn receiver_start(record: Record, batch: u32, blocks: u32, ranges: [&[u8]; 4
     if answer != DONE {
         return (answer, record, vec![]);
     }
-    let after = Record {
-        last: batch,
-        blocks,
-        stage: OPEN,
-        ..record
-    };
-    (
-        DONE,
-        after,
-        receiver_batch(record.width as usize, ranges[0], batch, column_length(blocks as usize)),
-    )
+    let written = receiver_batch(record.width as usize, ranges[0], batch, column_length(blocks as usize));
+    (DONE, opened(record, batch, blocks), written)
 }
 
 pub fn sender_correct(record: Record, batch: u32, blocks: u32, ranges: [&[u8]; 4]) -> Given {
@@ -264,24 +274,9 @@ pub fn sender_correct(record: Record, batch: u32, blocks: u32, ranges: [&[u8]; 4
         return (answer, record, vec![]);
     }
     let [siblings, delta, correction, _] = ranges;
-    let after = Record {
-        last: batch,
-        blocks,
-        stage: OPEN,
-        ..record
-    };
-    (
-        DONE,
-        after,
-        vec![sender_table(
-            record.width as usize,
-            siblings,
-            delta,
-            batch,
-            column_length(blocks as usize),
-            correction,
-        )],
-    )
+    let length = column_length(blocks as usize);
+    let written = sender_table(record.width as usize, siblings, delta, batch, length, correction);
+    (DONE, opened(record, batch, blocks), vec![written])
 }
 
 pub fn receiver_answer(record: Record, key: u64, ranges: [&[u8]; 4]) -> Given {
@@ -290,19 +285,8 @@ pub fn receiver_answer(record: Record, key: u64, ranges: [&[u8]; 4]) -> Given {
         return (answer, record, vec![]);
     }
     let [choices, table, ..] = ranges;
-    let after = Record {
-        blocks: 0,
-        stage: READY,
-        ..record
-    };
-    (
-        DONE,
-        after,
-        vec![
-            check_message(key, choices, table),
-            receiver_pads(record.last, record.blocks as usize, table),
-        ],
-    )
+    let pads = receiver_pads(record.last, record.blocks as usize, table);
+    (DONE, ended(record), vec![check_message(key, choices, table), pads])
 }
 
 pub fn sender_verify(record: Record, key: u64, ranges: [&[u8]; 4]) -> Given {
@@ -314,10 +298,6 @@ pub fn sender_verify(record: Record, key: u64, ranges: [&[u8]; 4]) -> Given {
     if !accepts(key, table, delta, message) {
         return (CHECK, Record { stage: CLOSED, ..record }, vec![]);
     }
-    let after = Record {
-        blocks: 0,
-        stage: READY,
-        ..record
-    };
-    (DONE, after, vec![sender_pads(record.last, record.blocks as usize, table, delta)])
+    let pads = sender_pads(record.last, record.blocks as usize, table, delta);
+    (DONE, ended(record), vec![pads])
 }
