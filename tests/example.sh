@@ -19,7 +19,11 @@ verify: refused, 6
 correct: refused, 2
 END
 
-# The archive exports what the header declares, and needs no more than is told.
+# The archive has no data that a call could keep, exports what the header declares, and needs no more than is told.
+if [ "$(size build/libsoftspoken.a | awk 'NR > 1 { n += $2 + $3 } END { print n }')" != 0 ]; then
+    echo "example: the archive has data of its own"
+    exit 1
+fi
 nm -g build/libsoftspoken.a | awk 'NF > 1 { print $(NF - 1), $NF }' | sort >"$out/names"
 { sed -n 's/^uint32_t \(softspoken_[a-z_]*\)(.*/T \1/p' include/softspoken.h; printf 'U %s\n' memcpy memset; } | sort >"$out/declared"
 if ! diff "$out/names" "$out/declared"; then
