@@ -137,8 +137,8 @@ uint32_t softspoken_receiver_setup(uint32_t width, const uint8_t *roots, size_t 
               softspoken_base_choice(width, delta, transfer).
    message    in, sent: SOFTSPOKEN_SETUP_MESSAGE_BYTES, from the receiver's setup of the same width.
    siblings   out, secret: SOFTSPOKEN_SIBLINGS_BYTES. When done: for each base transfer, in order, the node beside the
-              path at that level: the masked total of its side + the base pad + all children of that side that can be
-              made from the siblings above. Kept for every batch. */
+              path at that level: the masked total of its side, + the base pad, + all other children of that side made at
+              that level, which come from the siblings above. Kept for every batch. */
 uint32_t softspoken_sender_setup(uint32_t width, const uint8_t *delta, size_t delta_len, const uint8_t *base_pads,
                                  size_t base_pads_len, const uint8_t *message, size_t message_len, uint8_t *siblings,
                                  size_t siblings_len);
@@ -187,8 +187,8 @@ uint32_t softspoken_receiver_start(struct softspoken_record *record, const uint8
    delta      in, secret: SOFTSPOKEN_DELTA_BYTES, that of the setup.
    batch, blocks  as in the receiver's start.
    correction in, sent: SOFTSPOKEN_CORRECTION_BYTES(width, blocks), from the receiver's start.
-   table      out, secret: SOFTSPOKEN_TABLE_BYTES(blocks). When done: for tree i, bit b, the sum of the streams of the leaves
-              below the siblings whose number, exclusive or delta's number for the tree, has bit b; + the tree's correction
+   table      out, secret: SOFTSPOKEN_TABLE_BYTES(blocks). When done: for tree i, bit b, the sum of the streams of those
+              leaves, made from the siblings, whose number exclusive or the tree's number has bit b; + the tree's correction
               where delta has the bit (tree 0 has none). If both sides are honest, row value j is the receiver's row value
               j, + delta where choice j is 1. */
 uint32_t softspoken_sender_correct(struct softspoken_record *record, const uint8_t *siblings, size_t siblings_len,
