@@ -143,8 +143,8 @@ def document(rows):
 {wrap(f"Measured in one run: {machine()}. The last built the proved library.")}
 
 {wrap('''Three implementations of the same steps, on the same inputs. Every output byte is compared first, at every width k and every P,
-and so is the verify's answer to a damaged message. All three use secrets as data and masks only, but for the verify's answer. Each time
-is the least of many passes, the three in turn.''')}
+and so is the verify's answer to a damaged message. All three are written so that secrets are data and masks only, but for the verify's
+answer; of the proved steps that is tested (`tests/secrets.sh`). Each time is the least of many passes, the three in turn.''')}
 
 {wrap('''- **Plain C** (`bench/plain.c`, gcc -O3 for plain x86-64) makes one ChaCha20 block, one hash and one row at a time, and
 multiplies bit by bit.''', "  ")}

@@ -37,8 +37,9 @@
    added, as polynomials over two elements modulo X^64 + X^4 + X^3 + X + 1. The pad of a row value is SHA-256 of 32 bytes:
    the letters PADS, the batch number in 8 bytes, the row in 4, and the row value in 16.
 
-   The promises below are proved for all inputs (docs/THEOREMS.md tells how); what SECRETS says and the bound on the stack
-   are tested on the compiled code, not proved. */
+   What a function promises below, its answer and what the record and each range hold afterwards, is proved for all inputs
+   (docs/THEOREMS.md tells how). What SECRETS says, the bound on the stack and the two inline functions are tested, not
+   proved. */
 #ifndef SOFTSPOKEN_H
 #define SOFTSPOKEN_H
 
@@ -168,7 +169,7 @@ static inline unsigned softspoken_choice(const uint8_t *choices, size_t row) {
    batch      1 to 4294967295; both sides give the same.
    blocks     1 to 15; both sides give the same.
    choices    out, secret: SOFTSPOKEN_CHOICES_BYTES(blocks). When done: a choice bit for every row, the sum of the streams of
-              all leaves of tree 0. So the bits are as random as the roots.
+              all leaves of tree 0. The host can't choose them: they come from the roots.
    table      out, secret: SOFTSPOKEN_TABLE_BYTES(blocks). When done: for tree i, bit b, the sum of the streams of the leaves
               whose number has bit b.
    correction out, sent: SOFTSPOKEN_CORRECTION_BYTES(width, blocks). When done: for each tree from 1 on, the sum of the
