@@ -9,8 +9,8 @@ ghost use lib.ListN.{length};
 
 // Two sessions, one on each side.
 struct Sessions {
-    receiver: session::Record,
-    sender: session::Record,
+    receiver: rules::Record,
+    sender: rules::Record,
 }
 
 // The length that stands at a place; no more than a derived range has, which the `ensures` says.
@@ -26,10 +26,10 @@ fn length_at(p: &[u8], at: usize) -> usize
 }
 
 // The record of a session at a place: width, last batch number, blocks and stage, 4 bytes each.
-fn record_at(p: &[u8], at: usize) -> session::Record
+fn record_at(p: &[u8], at: usize) -> rules::Record
     requires { ⌜ at + 16 ≤ length (now p) ⌝ }
 {
-    session::Record {
+    rules::Record {
         width: words::load32(p, at),
         last: words::load32(p, at + 4),
         blocks: words::load32(p, at + 8),
@@ -187,12 +187,12 @@ fn damage(alterations: &[u8], range: u8, s: &mut [u8]) {
 
 // The receiver's start and answer in a whole batch. The record goes from one to the other.
 fn batch_receiver(
-    record: session::Record,
+    record: rules::Record,
     p: &[u8],
     roots: &[u8],
     correction: &mut [u8],
     message: &mut [u8],
-) -> session::Record
+) -> rules::Record
     requires { ⌜ 60 ≤ length (now p) ⌝ }
 {
     let key = words::load64(p, 8);
@@ -230,12 +230,12 @@ fn siblings_of(width: u32, roots: &[u8], delta: &[u8]) -> [u8; 4096]
 
 // The sender's correction in a whole batch, after the setup, on a correction that may be damaged.
 fn batch_correct(
-    record: session::Record,
+    record: rules::Record,
     p: &[u8],
     roots: &[u8],
     correction: &mut [u8],
     table: &mut [u8],
-) -> session::Record
+) -> rules::Record
     requires { ⌜ 60 ≤ length (now p) ⌝ }
 {
     let batch = words::load32(p, 0);
@@ -269,7 +269,7 @@ fn verify_key(p: &[u8]) -> u64
 }
 
 // The sender's verify in a whole batch.
-fn batch_verify(record: session::Record, p: &[u8], table: &[u8], message: &[u8]) -> session::Record
+fn batch_verify(record: rules::Record, p: &[u8], table: &[u8], message: &[u8]) -> rules::Record
     requires { ⌜ 60 ≤ length (now p) ⌝ }
 {
     let delta = verify_delta(p);
@@ -285,12 +285,12 @@ fn batch_verify(record: session::Record, p: &[u8], table: &[u8], message: &[u8])
 // The sender's correction and verify in a whole batch. The record goes from one to the other; the table and the message may be damaged
 // between them.
 fn batch_sender(
-    record: session::Record,
+    record: rules::Record,
     p: &[u8],
     roots: &[u8],
     correction: &mut [u8],
     message: &mut [u8],
-) -> session::Record
+) -> rules::Record
     requires { ⌜ 60 ≤ length (now p) ⌝ }
 {
     let table_len = length_at(p, 44);
@@ -375,7 +375,7 @@ fn case(both: Sessions, kind: u8, p: &[u8]) -> Sessions {
 
 // Two sessions whose records hold nothing.
 fn nothing() -> Sessions {
-    let r = session::Record {
+    let r = rules::Record {
         width: 0,
         last: 0,
         blocks: 0,

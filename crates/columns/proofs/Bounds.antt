@@ -9,7 +9,8 @@ use Rattle.words.proofs.Xor.{bit-lt, scale-lt}
 use Rattle.words.proofs.Lists.{tabulate-lt, xorList-bytes}
 use Rattle.words.proofs.Concat.{concat-lt}
 use Rattle.tree.specs.Tree.{streamByte}
-use Rattle.tree.specs.Layout.{treesOf, rootOf}
+use Rattle.sizes.specs.Sizes.{treesOf}
+use Rattle.tree.specs.Layout.{rootOf}
 use Rattle.tree.proofs.Sums.{sum-lt}
 use Rattle.tree.proofs.Streams.{stream-lt}
 use Rattle.columns.specs.Columns.{tableOf, uOf, choicesOf, receiverColumn, receiverTable, correctionOf}

@@ -17,7 +17,8 @@ use Rattle.words.proofs.Concat.{concat-length, concat-part}
 use Rattle.tree.specs.Tree.{sumBelow, streamByte}
 use Rattle.tree.specs.Path.{siblingNode, siblingNumber}
 use Rattle.tree.specs.Columns.{uAt, receiverAt}
-use Rattle.tree.specs.Layout.{columns, treesOf, rootOf, deltaOf, treePart, columnOf}
+use Rattle.sizes.specs.Sizes.{columns, treesOf}
+use Rattle.tree.specs.Layout.{rootOf, deltaOf, treePart, columnOf}
 use Rattle.tree.proofs.Path.{sibling-length}
 use Rattle.tree.proofs.Columns.{sender-beside, column-identity}
 use Rattle.columns.specs.Columns.{uOf, choicesOf, receiverColumn, receiverTable, correctionOf, besideAt, treeCorrection, senderColumn, senderTable}

@@ -10,7 +10,8 @@ use Rattle.words.specs.Bytes.{part, concat}
 use Rattle.words.specs.Xor.{xorList}
 use Rattle.words.proofs.Lists.{tabulate-length, xorEach-length}
 use Rattle.words.proofs.Concat.{place-fits, part-part, concat-length, concat-part}
-use Rattle.tree.specs.Layout.{columns, treesOf, rootOf, deltaOf, treePart, columnOf}
+use Rattle.sizes.specs.Sizes.{columns, treesOf}
+use Rattle.tree.specs.Layout.{rootOf, deltaOf, treePart, columnOf}
 use Rattle.columns.specs.Columns.{tableOf, uOf, choicesOf, receiverColumn, receiverTable, correctionOf, treeCorrection, senderColumn, senderTable}
 
 -- ---- columns and corrections

@@ -11,7 +11,8 @@ use Rattle.words.proofs.Numbers.{number-bytes, word64-part}
 use Rattle.words.proofs.Concat.{concat-length, concat-part, part-lt}
 use Rattle.gf64.specs.Field.{foldBytes}
 use Rattle.gf64.proofs.Bytes.{foldBytes-lt}
-use Rattle.tree.specs.Layout.{columns, columnOf}
+use Rattle.sizes.specs.Sizes.{columns}
+use Rattle.tree.specs.Layout.{columnOf}
 use Rattle.consistency.specs.Message.{checkMessage}
 
 -- eight bytes that are those of a word have it as their number

@@ -1,4 +1,5 @@
 -- The laws that other crates cite.
+pub mod Every
 pub mod Laws
 pub mod Folds
 pub mod Sides

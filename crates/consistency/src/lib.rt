@@ -10,7 +10,8 @@ ghost use Rattle.words.specs.Xor.{_⊕_};
 ghost use Rattle.gf64.specs.Field.{foldBytes};
 ghost use Rattle.gf64.specs.Table.{tableOf};
 ghost use Rattle.gf64.specs.Check.{choiceSide};
-ghost use Rattle.tree.specs.Layout.{columns, columnOf};
+ghost use Rattle.sizes.specs.Sizes.{columns, deltaLength, checkMessageLength};
+ghost use Rattle.tree.specs.Layout.{columnOf};
 ghost use Rattle.consistency.specs.Message.{checkMessage, sentChoice, sentColumn, accepts};
 
 // Lays out four words, 8 bytes each.
@@ -45,17 +46,22 @@ pub fn fold_columns(t: &[u32; 512], table: &[u8], len: usize, out: &mut [u8])
 
 // The receiver's message: the fold of its choices, then those of its columns.
 pub fn write_message(key: u64, choices: &[u8], table: &[u8], message: &mut [u8])
-    requires { ⌜ (length (now table) ≡ columns * length (now choices)) × (length (now message) ≡ 1032) ⌝ }
+    requires { ⌜ (length (now table) ≡ columns * length (now choices)) × (length (now message) ≡ checkMessageLength) ⌝ }
     ensures { λ _. ⌜ now (message .exit) ≡ checkMessage (length (now (choices .entry))) key (now (choices .entry)) (now (table .entry)) ⌝ }
 {
     words::store64(message, 0, gf64::fold(key, choices));
     let t = gf64::table(key);
-    fold_columns(&t, table, choices.len(), &mut message[8..1032]);
+    fold_columns(
+        &t,
+        table,
+        choices.len(),
+        &mut message[8..sizes::CHECK_MESSAGE_LENGTH],
+    );
 }
 
 // The two sides of the check in column c, added, where folds has those of the sender's columns: 0 where they are equal.
 fn difference(folds: &[u8], delta: &[u8], message: &[u8], c: usize) -> u64
-    requires { ⌜ (c < columns) × (length (now folds) ≡ 8 * columns) × (length (now delta) ≡ 16) × (length (now message) ≡ 1032) ⌝ }
+    requires { ⌜ (c < columns) × (length (now folds) ≡ 8 * columns) × (length (now delta) ≡ deltaLength) × (length (now message) ≡ checkMessageLength) ⌝ }
     ensures { λ r. ⌜ r ≡ ((sentColumn (now (message .entry)) c ⊕ word64 (now (folds .entry)) (8 * c)) ⊕ choiceSide (bitAt (now (delta .entry)) c) (sentChoice (now (message .entry)))) ⌝ }
 {
     let folded = words::load64(folds, 8 * c);
@@ -68,7 +74,7 @@ fn difference(folds: &[u8], delta: &[u8], message: &[u8], c: usize) -> u64
 // Whether the sender accepts a message: the two sides are equal in every column. No column is told, and none is left out once one
 // differs.
 pub fn accepts(key: u64, table: &[u8], delta: &[u8], message: &[u8], len: usize) -> bool
-    requires { ⌜ (length (now table) ≡ columns * len) × (length (now delta) ≡ 16) × (length (now message) ≡ 1032) ⌝ }
+    requires { ⌜ (length (now table) ≡ columns * len) × (length (now delta) ≡ deltaLength) × (length (now message) ≡ checkMessageLength) ⌝ }
     ensures { λ r. ⌜ r ≡ accepts len key (now (table .entry)) (now (delta .entry)) (now (message .entry)) ⌝ }
 {
     let t = gf64::table(key);

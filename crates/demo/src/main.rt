@@ -10,8 +10,8 @@ ghost use lib.ListN.{length};
 
 // Two sessions, one on each side.
 struct Sessions {
-    receiver: session::Record,
-    sender: session::Record,
+    receiver: rules::Record,
+    sender: rules::Record,
 }
 
 // A batch to be played: its number, blocks and key, and what is added to a byte of tree 1's correction on its way to the sender.
@@ -341,7 +341,7 @@ fn planned(number: u32, blocks: u32, flip: u8) -> Batch
 
 // Two sessions of width 8, opened on records that hold nothing.
 fn new_sessions() -> Sessions {
-    let r = session::Record {
+    let r = rules::Record {
         width: 0,
         last: 0,
         blocks: 0,

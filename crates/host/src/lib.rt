@@ -1,7 +1,7 @@
 // What the host program, written in C, calls: numbers and byte ranges. include/softspoken.h declares it.
 mod numbered;
 
-use session::Record;
+use rules::Record;
 ghost use Rattle.answer.specs.Answer.{Numbered};
 ghost use Rattle.setup.specs.Setup.{ReceiverSetup, SenderSetup};
 ghost use Rattle.session.specs.Steps.{OpenSession, ReceiverStart, SenderCorrect, ReceiverAnswer, SenderVerify};

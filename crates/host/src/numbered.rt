@@ -1,5 +1,5 @@
 // The steps of a session by value, with the answer as its number.
-use session::Record;
+use rules::Record;
 ghost use Rattle.answer.specs.Answer.{Numbered};
 ghost use Rattle.session.specs.Steps.{OpenSession, ReceiverStart, SenderCorrect, ReceiverAnswer, SenderVerify};
 

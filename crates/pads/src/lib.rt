@@ -7,7 +7,7 @@ ghost use Prim.Native.Nat.{_+_, _*_, _≤_};
 ghost use lib.ListN.{length};
 ghost use Rattle.words.specs.Bytes.{part, concat};
 ghost use Rattle.words.specs.Xor.{xorList};
-ghost use Rattle.tree.specs.Layout.{columnLength};
+ghost use Rattle.sizes.specs.Sizes.{deltaLength, tableLength, receiverPadsLength, senderPadsLength};
 ghost use Rattle.pads.specs.Pads.{padInput, padOf, receiverPads, senderPads};
 
 // The head of each hashed block.
@@ -68,7 +68,7 @@ fn eight_pads(batch: u64, first: u32, values: &[u8], pads: &mut [u8])
 
 // The receiver's pads: one for each row of its table, but those of the spent block.
 pub fn receiver_pads(batch: u64, blocks: usize, table: &[u8], pads: &mut [u8])
-    requires { ⌜ (blocks ≤ 15) × (length (now table) ≡ 128 * columnLength blocks) × (length (now pads) ≡ 2048 * blocks) ⌝ }
+    requires { ⌜ (blocks ≤ 15) × (length (now table) ≡ tableLength blocks) × (length (now pads) ≡ receiverPadsLength blocks) ⌝ }
     ensures { λ _. ⌜ now (pads .exit) ≡ receiverPads blocks batch (now (table .entry)) ⌝ }
 {
     let len = 8 * (blocks + 1);
@@ -103,7 +103,7 @@ fn pair_pads(pads0: &[u8], pads1: &[u8], pairs: &mut [u8])
 
 // Both pads of eight rows: pad 0 hashes the row value, pad 1 the row value with delta added.
 fn eight_pairs(batch: u64, first: u32, values: [u8; 128], delta: &[u8], pairs: &mut [u8])
-    requires { ⌜ (first + 8 ≤ 4294967296) × (length (now delta) ≡ 16) × (length (now pairs) ≡ 512) ⌝ }
+    requires { ⌜ (first + 8 ≤ 4294967296) × (length (now delta) ≡ deltaLength) × (length (now pairs) ≡ 512) ⌝ }
     ensures { λ _. ⌜ now (pairs .exit) ≡ concat 8 (λ i. padOf batch (first + i) (part (i * 16) 16 values) ++ padOf batch (first + i) (xorList (part (i * 16) 16 values) (now (delta .entry)))) ⌝ }
 {
     let mut shifted = values;
@@ -117,7 +117,7 @@ fn eight_pairs(batch: u64, first: u32, values: [u8; 128], delta: &[u8], pairs: &
 
 // The sender's pads: two for each row of its table, but those of the spent block.
 pub fn sender_pads(batch: u64, blocks: usize, table: &[u8], delta: &[u8], pads: &mut [u8])
-    requires { ⌜ (blocks ≤ 15) × (length (now table) ≡ 128 * columnLength blocks) × (length (now delta) ≡ 16) × (length (now pads) ≡ 4096 * blocks) ⌝ }
+    requires { ⌜ (blocks ≤ 15) × (length (now table) ≡ tableLength blocks) × (length (now delta) ≡ deltaLength) × (length (now pads) ≡ senderPadsLength blocks) ⌝ }
     ensures { λ _. ⌜ now (pads .exit) ≡ senderPads blocks batch (now (table .entry)) (now (delta .entry)) ⌝ }
 {
     let len = 8 * (blocks + 1);

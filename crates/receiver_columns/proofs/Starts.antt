@@ -18,10 +18,9 @@ use Rattle.chacha20.specs.Lanes.{keyIn}
 use Rattle.tree.specs.Tree.{streamByte}
 use Rattle.tree.specs.Columns.{uAt, receiverAt}
 use Rattle.tree.specs.Lanes.{uWord, columnWord}
-use Rattle.tree.specs.Layout.{treesOf, rootOf}
-use Rattle.answer.specs.Answer.{widthAllowed}
-use Rattle.answer.proofs.Laws.{width-cases}
-use Rattle.tree.proofs.Widths.{width-fits}
+use Rattle.sizes.specs.Sizes.{widthAllowed, treesOf}
+use Rattle.tree.specs.Layout.{rootOf}
+use Rattle.sizes.proofs.Widths.{width-cases, width-fits}
 use Rattle.tree.proofs.Streams.{u-lane, column-lane}
 use Rattle.columns.specs.Columns.{uOf, receiverColumn}
 use Rattle.columns.proofs.Tables.{columns-fit}

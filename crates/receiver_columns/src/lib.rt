@@ -5,8 +5,8 @@ ghost use Prim.Native.Nat.{ℕ, suc, _+_, _-_, _*_, _/_, _%_, _≤_, _<_};
 ghost use lib.ListN.{length, take};
 ghost use Rattle.words.specs.Bytes.{part, concat};
 ghost use Rattle.words.specs.Lanes.{laneBytes};
-ghost use Rattle.answer.specs.Answer.{widthAllowed};
-ghost use Rattle.tree.specs.Layout.{treesOf, rootOf};
+ghost use Rattle.sizes.specs.Sizes.{widthAllowed, treesOf, rootsLength};
+ghost use Rattle.tree.specs.Layout.{rootOf};
 ghost use Rattle.columns.specs.Columns.{uOf, choicesOf, receiverColumn, receiverTable, correctionOf};
 ghost use Rattle.receiver_columns.specs.Room.{WorkFits};
 
@@ -123,7 +123,7 @@ fn all_trees(
     correction: &mut [u8],
 )
     requires { ⌜ (widthAllowed k ≡ true) × (length (now choices) % 4 ≡ 0) × (0 < length (now choices)) × (length (now u) % 64 ≡ 0) × (length (now u) ≤ 128) × (length (now choices) ≤ length (now u)) × (length (now v) ≡ k * length (now u)) ⌝ }
-    requires { ⌜ (length (now roots) ≡ 32 * treesOf k) × (length (now table) ≡ 128 * length (now choices)) × (length (now correction) ≡ (treesOf k - 1) * length (now choices)) ⌝ }
+    requires { ⌜ (length (now roots) ≡ rootsLength k) × (length (now table) ≡ 128 * length (now choices)) × (length (now correction) ≡ (treesOf k - 1) * length (now choices)) ⌝ }
     ensures { λ _. ⌜ now (choices .exit) ≡ choicesOf k batch (length (now (choices .entry))) (now (roots .entry)) ⌝ }
     ensures { λ _. ⌜ now (table .exit) ≡ receiverTable k batch (length (now (choices .entry))) (now (roots .entry)) ⌝ }
     ensures { λ _. ⌜ now (correction .exit) ≡ concat (treesOf k - 1) (λ i. uOf k batch (length (now (choices .entry))) (rootOf (now (roots .entry)) (suc i))) ⌝ }
@@ -164,7 +164,7 @@ pub fn start(
     table: &mut [u8],
     correction: &mut [u8],
 )
-    requires { ⌜ (widthAllowed k ≡ true) × (length (now roots) ≡ 32 * treesOf k) × (length (now choices) % 8 ≡ 0) × (0 < length (now choices)) × (length (now choices) ≤ 128) × (length (now table) ≡ 128 * length (now choices)) × (length (now correction) ≡ (treesOf k - 1) * length (now choices)) ⌝ }
+    requires { ⌜ (widthAllowed k ≡ true) × (length (now roots) ≡ rootsLength k) × (length (now choices) % 8 ≡ 0) × (0 < length (now choices)) × (length (now choices) ≤ 128) × (length (now table) ≡ 128 * length (now choices)) × (length (now correction) ≡ (treesOf k - 1) * length (now choices)) ⌝ }
     ensures { λ _. ⌜ now (choices .exit) ≡ choicesOf k batch (length (now (choices .entry))) (now (roots .entry)) ⌝ }
     ensures { λ _. ⌜ now (table .exit) ≡ receiverTable k batch (length (now (choices .entry))) (now (roots .entry)) ⌝ }
     ensures { λ _. ⌜ now (correction .exit) ≡ correctionOf k batch (length (now (choices .entry))) (now (roots .entry)) ⌝ }

@@ -15,12 +15,12 @@ use Rattle.words.proofs.Concat.{part-at, part-part, place-fits, place-part}
 use Rattle.words.proofs.LaneBytes.{laneBytes-length, laneBytes-at, lane-is}
 use Rattle.words.specs.Bits.{bitOf}
 use Rattle.words.specs.Xor.{_⊕_}
-use Rattle.answer.specs.Answer.{widthAllowed}
 use Rattle.tree.specs.Tree.{streamByte}
 use Rattle.tree.specs.Path.{sideOf}
-use Rattle.tree.specs.Layout.{treesOf, deltaOf}
+use Rattle.sizes.specs.Sizes.{widthAllowed, treesOf}
+use Rattle.tree.specs.Layout.{deltaOf}
 use Rattle.tree.specs.Sides.{sidesOf}
-use Rattle.tree.proofs.Widths.{width-fits}
+use Rattle.sizes.proofs.Widths.{width-fits}
 use Rattle.tree.proofs.Sides.{sides-at}
 use Rattle.columns.specs.Columns.{besideAt, senderColumn, treeCorrection}
 use Rattle.columns.proofs.Honest.{delta-lt}

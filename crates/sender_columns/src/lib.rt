@@ -7,9 +7,9 @@ ghost use lib.ListN.{length, getD};
 ghost use Rattle.words.specs.Bytes.{part, concat};
 ghost use Rattle.words.specs.Xor.{xorEach};
 ghost use Rattle.tree.specs.Lanes.{uWord};
-ghost use Rattle.tree.specs.Layout.{columns, treesOf, treePart};
+ghost use Rattle.sizes.specs.Sizes.{widthAllowed, columns, treesOf, deltaLength, siblingsLength};
+ghost use Rattle.tree.specs.Layout.{treePart};
 ghost use Rattle.tree.specs.Sides.{Sides};
-ghost use Rattle.answer.specs.Answer.{widthAllowed};
 ghost use Rattle.columns.specs.Columns.{senderColumn, senderTable, treeCorrection};
 ghost use Rattle.sender_columns.specs.Lanes.{SidesAre, SenderLanes, WorkFits, levelAdded};
 
@@ -183,7 +183,7 @@ fn all_trees(
     v: &mut [u32],
     table: &mut [u8],
 )
-    requires { ⌜ (widthAllowed k ≡ true) × (length (now siblings) ≡ 4096) × (length (now delta) ≡ 16) × (length (now correction) ≡ (treesOf k - 1) * len) × (length (now table) ≡ columns * len) ⌝ }
+    requires { ⌜ (widthAllowed k ≡ true) × (length (now siblings) ≡ siblingsLength) × (length (now delta) ≡ deltaLength) × (length (now correction) ≡ (treesOf k - 1) * len) × (length (now table) ≡ columns * len) ⌝ }
     requires { ⌜ WorkFits k len (now s) (now u) (now v) ⌝ }
     ensures { λ _. ⌜ now (table .exit) ≡ senderTable k batch len (now (siblings .entry)) (now (delta .entry)) (now (correction .entry)) ⌝ }
 {
@@ -227,7 +227,7 @@ pub fn correct(
     correction: &[u8],
     table: &mut [u8],
 )
-    requires { ⌜ (widthAllowed k ≡ true) × (0 < len) × (len ≤ 128) × (len % 8 ≡ 0) × (length (now siblings) ≡ 4096) × (length (now delta) ≡ 16) × (length (now correction) ≡ (treesOf k - 1) * len) × (length (now table) ≡ columns * len) ⌝ }
+    requires { ⌜ (widthAllowed k ≡ true) × (0 < len) × (len ≤ 128) × (len % 8 ≡ 0) × (length (now siblings) ≡ siblingsLength) × (length (now delta) ≡ deltaLength) × (length (now correction) ≡ (treesOf k - 1) * len) × (length (now table) ≡ columns * len) ⌝ }
     ensures { λ _. ⌜ now (table .exit) ≡ senderTable k batch len (now (siblings .entry)) (now (delta .entry)) (now (correction .entry)) ⌝ }
 {
     let size = 32 * k;

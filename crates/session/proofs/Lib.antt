@@ -1,3 +1,1 @@
--- The laws that other crates cite.
-pub mod Order
-pub mod Named
+-- No other crate cites a law of this one.

@@ -1,19 +1,7 @@
 // A session's steps by value: the record goes in and comes back.
-mod answers;
-
 use answer::Answer;
-ghost use mathlib.Core.Path.{_≡_};
-ghost use Rattle.session.specs.Steps.{newRecord, withBatch, withoutBatch, closed, OpenSession, ReceiverStart, SenderCorrect, ReceiverAnswer, SenderVerify};
-
-// The record of a session: its width, the last batch number (0 for none), the blocks of the open batch, and the stage (0 ready, 1 open,
-// 2 closed). It may hold any numbers.
-#[repr(C)]
-pub struct Record {
-    pub width: u32,
-    pub last: u32,
-    pub blocks: u32,
-    pub stage: u32,
-}
+use rules::Record;
+ghost use Rattle.session.specs.Steps.{OpenSession, ReceiverStart, SenderCorrect, ReceiverAnswer, SenderVerify};
 
 // What a step gives back: its answer, and the record after it.
 pub struct Stepped {
@@ -21,68 +9,16 @@ pub struct Stepped {
     pub record: Record,
 }
 
-// The record of a session that is opened.
-fn fresh(width: u32) -> Record
-    ensures { λ x. ⌜ x ≡ newRecord width ⌝ }
-{
-    Record {
-        width,
-        last: 0,
-        blocks: 0,
-        stage: 0,
-    }
-}
-
-// The record of a batch that is opened.
-fn opened(r: Record, batch: u32, blocks: u32) -> Record
-    ensures { λ x. ⌜ x ≡ withBatch r batch blocks ⌝ }
-{
-    Record {
-        width: r.width,
-        last: batch,
-        blocks,
-        stage: 1,
-    }
-}
-
-// And of one that is ended.
-fn ended(r: Record) -> Record
-    ensures { λ x. ⌜ x ≡ withoutBatch r ⌝ }
-{
-    Record {
-        width: r.width,
-        last: r.last,
-        blocks: 0,
-        stage: 0,
-    }
-}
-
-// And of a session whose check failed.
-fn closed(r: Record) -> Record
-    ensures { λ x. ⌜ x ≡ closed r ⌝ }
-{
-    Record {
-        width: r.width,
-        last: r.last,
-        blocks: r.blocks,
-        stage: 2,
-    }
-}
-
 // Opens a session of a width, whatever the record held.
 pub fn open(r: Record, width: u32) -> Stepped
     ensures { λ x. ⌜ OpenSession r width (x .answer) (x .record) ⌝ }
 {
-    if answer::width_allowed(width) {
-        let record = fresh(width);
-        return Stepped {
-            answer: Answer::Done,
-            record,
-        };
-    }
-    Stepped {
-        answer: Answer::Width,
-        record: r,
+    let answer = orders::open_session(width);
+    if answer::is_done(answer) {
+        let record = rules::new_record(width);
+        Stepped { answer, record }
+    } else {
+        Stepped { answer, record: r }
     }
 }
 
@@ -98,7 +34,7 @@ pub fn receiver_start(
 ) -> Stepped
     ensures { λ x. ⌜ ReceiverStart r (now (roots .entry)) batch blocks (now (choices .entry)) (now (table .entry)) (now (correction .entry)) (x .answer) (x .record) (now (choices .exit)) (now (table .exit)) (now (correction .exit)) ⌝ }
 {
-    let answer = answers::start_answer(
+    let answer = orders::receiver_start(
         r,
         batch,
         blocks,
@@ -107,9 +43,9 @@ pub fn receiver_start(
         table.len(),
         correction.len(),
     );
-    if let Answer::Done = answer {
+    if answer::is_done(answer) {
         receiver_columns::start(r.width as usize, roots, batch, choices, table, correction);
-        let record = opened(r, batch, blocks);
+        let record = rules::with_batch(r, batch, blocks);
         Stepped { answer, record }
     } else {
         Stepped { answer, record: r }
@@ -128,7 +64,7 @@ pub fn sender_correct(
 ) -> Stepped
     ensures { λ x. ⌜ SenderCorrect r (now (siblings .entry)) (now (delta .entry)) batch blocks (now (correction .entry)) (now (table .entry)) (x .answer) (x .record) (now (table .exit)) ⌝ }
 {
-    let answer = answers::correct_answer(
+    let answer = orders::sender_correct(
         r,
         batch,
         blocks,
@@ -137,8 +73,8 @@ pub fn sender_correct(
         correction.len(),
         table.len(),
     );
-    if let Answer::Done = answer {
-        let len = 8 * (blocks as usize + 1);
+    if answer::is_done(answer) {
+        let len = sizes::column_length(blocks);
         sender_columns::correct(
             r.width as usize,
             len,
@@ -148,7 +84,7 @@ pub fn sender_correct(
             correction,
             table,
         );
-        let record = opened(r, batch, blocks);
+        let record = rules::with_batch(r, batch, blocks);
         Stepped { answer, record }
     } else {
         Stepped { answer, record: r }
@@ -166,11 +102,11 @@ pub fn receiver_answer(
 ) -> Stepped
     ensures { λ x. ⌜ ReceiverAnswer r key (now (choices .entry)) (now (table .entry)) (now (message .entry)) (now (pads .entry)) (x .answer) (x .record) (now (message .exit)) (now (pads .exit)) ⌝ }
 {
-    let answer = answers::answer_answer(r, choices.len(), table.len(), message.len(), pads.len());
-    if let Answer::Done = answer {
+    let answer = orders::receiver_answer(r, choices.len(), table.len(), message.len(), pads.len());
+    if answer::is_done(answer) {
         consistency::write_message(key, choices, table, message);
         pads::receiver_pads(r.last as u64, r.blocks as usize, table, pads);
-        let record = ended(r);
+        let record = rules::without_batch(r);
         Stepped { answer, record }
     } else {
         Stepped { answer, record: r }
@@ -188,15 +124,15 @@ pub fn sender_verify(
 ) -> Stepped
     ensures { λ x. ⌜ SenderVerify r key (now (table .entry)) (now (delta .entry)) (now (message .entry)) (now (pads .entry)) (x .answer) (x .record) (now (pads .exit)) ⌝ }
 {
-    let answer = answers::verify_answer(r, table.len(), delta.len(), message.len(), pads.len());
-    if let Answer::Done = answer {
-        let len = 8 * (r.blocks as usize + 1);
+    let answer = orders::sender_verify(r, table.len(), delta.len(), message.len(), pads.len());
+    if answer::is_done(answer) {
+        let len = sizes::column_length(r.blocks);
         if consistency::accepts(key, table, delta, message, len) {
             pads::sender_pads(r.last as u64, r.blocks as usize, table, delta, pads);
-            let record = ended(r);
+            let record = rules::without_batch(r);
             Stepped { answer, record }
         } else {
-            let record = closed(r);
+            let record = rules::closed(r);
             Stepped {
                 answer: Answer::Check,
                 record,

@@ -1,51 +1,40 @@
 -- When a setup is done. Assumes nothing.
-use mathlib.Core.Path.{_≡_, _∙_}
+use mathlib.Core.Path.{_≡_, refl}
 use mathlib.Core.Bool.{true}
-use Prim.Native.Nat.{ℕ, _*_}
-use native.Mathlib.Omega.{arith}
+use Prim.Native.Nat.{ℕ}
 use borrow.Author.Tests.{eq-eqb, eqb-true}
-use Rattle.answer.specs.declared.Answer.the-variants.{Done, Width, Length}
-use Rattle.answer.specs.Answer.{widthAllowed}
-use Rattle.answer.proofs.Laws.{passed, both-yes, both-of, done-of}
-use Rattle.tree.specs.Layout.{treesOf}
-use Rattle.setup.specs.Setup.{receiverSetupAnswer, senderSetupAnswer}
+use Rattle.answer.specs.declared.Answer.the-variants.{Done}
+use Rattle.answer.specs.Answer.{isDone, firstOf}
+use Rattle.answer.proofs.Order.{all-hold, done-when}
+use Rattle.sizes.specs.Sizes.{widthAllowed, deltaLength, rootsLength, receiverBasePadsLength, senderBasePadsLength, setupMessageLength, siblingsLength}
+use Rattle.rules.specs.Orders.{receiverSetupOrder, senderSetupOrder}
 
 -- the width is allowed and each range has its length
 abbrev pub ReceiverFits : ℕ → ℕ → ℕ → ℕ → Type 0
-ReceiverFits k roots pads message = (widthAllowed k ≡ true) × (roots ≡ 32 * treesOf k) × (pads ≡ 8192) × (message ≡ 8192)
+ReceiverFits k roots pads message =
+    (widthAllowed k ≡ true) × (roots ≡ rootsLength k) × (pads ≡ receiverBasePadsLength) × (message ≡ setupMessageLength)
 
-pub receiver-fits : (k roots pads message : ℕ) → receiverSetupAnswer k roots pads message ≡ Done → ReceiverFits k roots pads message
-unfolding receiverSetupAnswer
+pub receiver-fits : (k roots pads message : ℕ) → isDone (firstOf (receiverSetupOrder k roots pads message)) ≡ true → ReceiverFits k roots pads message
 receiver-fits k roots pads message e =
-    let width = done-of _ Width _ (omega arith) e in
-    let first = both-of _ _ (done-of _ Length _ (omega arith) (width .1) .0) in
-    let second = both-of _ _ (first .1) in
-    (width .0, eqb-true _ _ (first .0), eqb-true _ _ (second .0), eqb-true _ _ (second .1))
+    let h = all-hold (receiverSetupOrder k roots pads message) refl e in
+    (h .0, eqb-true roots _ (h .1 .0), eqb-true pads _ (h .1 .1 .0), eqb-true message _ (h .1 .1 .1 .0))
 
-pub receiver-done : (k roots pads message : ℕ) → ReceiverFits k roots pads message → receiverSetupAnswer k roots pads message ≡ Done
-unfolding receiverSetupAnswer
+pub receiver-done : (k roots pads message : ℕ) → ReceiverFits k roots pads message → firstOf (receiverSetupOrder k roots pads message) ≡ Done
 receiver-done k roots pads message f =
-    passed _ _ _ (f .0)
-    ∙ passed _ _ _ (both-yes _ _ (eq-eqb _ _ (f .1)) (both-yes _ _ (eq-eqb _ _ (f .2)) (eq-eqb _ _ (f .3))))
+    done-when (receiverSetupOrder k roots pads message) (f .0, (eq-eqb _ _ (f .1), (eq-eqb _ _ (f .2), (eq-eqb _ _ (f .3), tt))))
 
 abbrev pub SenderFits : ℕ → ℕ → ℕ → ℕ → ℕ → Type 0
 SenderFits k delta pads message siblings =
-    (widthAllowed k ≡ true) × (delta ≡ 16) × (pads ≡ 4096) × (message ≡ 8192) × (siblings ≡ 4096)
+    (widthAllowed k ≡ true) × (delta ≡ deltaLength) × (pads ≡ senderBasePadsLength) × (message ≡ setupMessageLength) × (siblings ≡ siblingsLength)
 
-pub sender-fits : (k delta pads message siblings : ℕ) → senderSetupAnswer k delta pads message siblings ≡ Done
+pub sender-fits : (k delta pads message siblings : ℕ) → isDone (firstOf (senderSetupOrder k delta pads message siblings)) ≡ true
     → SenderFits k delta pads message siblings
-unfolding senderSetupAnswer
 sender-fits k delta pads message siblings e =
-    let width = done-of _ Width _ (omega arith) e in
-    let first = both-of _ _ (done-of _ Length _ (omega arith) (width .1) .0) in
-    let second = both-of _ _ (first .1) in
-    let third = both-of _ _ (second .1) in
-    (width .0, eqb-true _ _ (first .0), eqb-true _ _ (second .0), eqb-true _ _ (third .0), eqb-true _ _ (third .1))
+    let h = all-hold (senderSetupOrder k delta pads message siblings) refl e in
+    (h .0, eqb-true delta _ (h .1 .0), eqb-true pads _ (h .1 .1 .0), eqb-true message _ (h .1 .1 .1 .0), eqb-true siblings _ (h .1 .1 .1 .1 .0))
 
 pub sender-done : (k delta pads message siblings : ℕ) → SenderFits k delta pads message siblings
-    → senderSetupAnswer k delta pads message siblings ≡ Done
-unfolding senderSetupAnswer
+    → firstOf (senderSetupOrder k delta pads message siblings) ≡ Done
 sender-done k delta pads message siblings f =
-    passed _ _ _ (f .0)
-    ∙ passed _ _ _
-    (both-yes _ _ (eq-eqb _ _ (f .1)) (both-yes _ _ (eq-eqb _ _ (f .2)) (both-yes _ _ (eq-eqb _ _ (f .3)) (eq-eqb _ _ (f .4)))))
+    done-when (senderSetupOrder k delta pads message siblings)
+    (f .0, (eq-eqb _ _ (f .1), (eq-eqb _ _ (f .2), (eq-eqb _ _ (f .3), (eq-eqb _ _ (f .4), tt)))))

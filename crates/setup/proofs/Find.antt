@@ -13,13 +13,13 @@ use Rattle.words.specs.Bytes.{tabulate, part, concat}
 use Rattle.words.specs.Xor.{sumTo}
 use Rattle.words.proofs.Lists.{tabulate-length, tabulate-at, tabulate-same}
 use Rattle.words.proofs.Concat.{place-fits, part-at, concat-same, concat-parts, group-part}
-use Rattle.answer.specs.Answer.{widthAllowed}
-use Rattle.tree.specs.Layout.{columns, treesOf, deltaOf, treePart}
+use Rattle.sizes.specs.Sizes.{widthAllowed, columns, treesOf}
+use Rattle.tree.specs.Layout.{deltaOf, treePart}
 use Rattle.tree.specs.Path.{sideOf}
 use Rattle.setup.specs.Setup.{unmasked, nextNode, nodesFound, treeSiblings, siblingsOf}
 use Rattle.tree.specs.Sides.{sidesOf}
 use Rattle.setup.specs.Found.{foundIn}
-use Rattle.tree.proofs.Widths.{width-fits}
+use Rattle.sizes.proofs.Widths.{width-fits}
 use Rattle.tree.proofs.Sides.{side-lt, sides-at}
 use Rattle.setup.proofs.Levels.{levelOf, unmasked-length, found-same}
 

@@ -16,7 +16,8 @@ use Rattle.words.proofs.Sums.{sumTo-same}
 use Rattle.tree.specs.Tree.{childOf, sumBelow, totalOf}
 use Rattle.tree.specs.Path.{siblingNode, sideOf}
 use Rattle.tree.proofs.Path.{sibling, sibling-length}
-use Rattle.tree.specs.Layout.{treesOf, rootOf, deltaOf, treePart}
+use Rattle.sizes.specs.Sizes.{treesOf}
+use Rattle.tree.specs.Layout.{rootOf, deltaOf, treePart}
 use Rattle.setup.specs.Setup.{treeMessage, messageOf}
 use Rattle.setup.specs.Setup.{unmasked, nextNode, nodesFound, treeSiblings, siblingsOf, senderBasePads, besidePaths}
 

@@ -2,31 +2,31 @@
 use mathlib.Core.Path.{_≡_}
 use mathlib.Core.List.{List, [], _++_}
 use Prim.Native.Nat.{ℕ, zero, suc, _+_, _-_, _*_}
-use lib.Dec.{eqb}
 use lib.ListN.{length, getD}
 use Rattle.words.specs.Bytes.{part, tabulate, concat}
 use Rattle.words.specs.Xor.{_⊕_, xorList, sumTo}
 use Rattle.tree.specs.Tree.{childOf, sumBelow, totalOf}
 use Rattle.tree.specs.Path.{siblingNode, sideOf}
-use Rattle.tree.specs.Layout.{treesOf, rootOf, deltaOf, treePart}
+use Rattle.sizes.specs.Sizes.{treesOf}
+use Rattle.tree.specs.Layout.{rootOf, deltaOf, treePart}
 use Rattle.answer.specs.declared.Answer.{Answer}
-use Rattle.answer.specs.declared.Answer.the-variants.{Done, Width, Length}
-use Rattle.answer.specs.Answer.{unless, both, widthAllowed, whenDone}
+use Rattle.answer.specs.Answer.{firstOf, whenDone}
+use Rattle.rules.specs.Orders.{receiverSetupOrder, senderSetupOrder}
 
 -- ---- the receiver
 
 -- the setup message of a tree holds, for each level's base transfer, two masked totals: for side 0, then 1, the total ⊕ that base pad
-unfoldable pub treeMessage : ℕ → List ℕ → List ℕ → List ℕ
+unfoldable pub treeMessage : (k : ℕ) (root pads : List ℕ) → List ℕ
 treeMessage k root pads = concat k (λ l. concat 2 (λ s. xorList (totalOf root l s) (part (64 * l + 32 * s) 32 pads)))
 
 -- and that of all trees stands in tree order, so in base-transfer order
-unfoldable pub messageOf : ℕ → List ℕ → List ℕ → List ℕ
+unfoldable pub messageOf : (k : ℕ) (roots pads : List ℕ) → List ℕ
 messageOf k roots pads = concat (treesOf k) (λ i. treeMessage k (rootOf roots i) (treePart k 64 i pads))
 
 -- ---- the sender, from any message and any pads
 
 -- the sender unmasks one total per level: of the sibling's side, by the pad of that number, the one that it has
-unfoldable pub unmasked : ℕ → (ℕ → ℕ) → List ℕ → List ℕ → List ℕ
+unfoldable pub unmasked : (k : ℕ) (side : ℕ → ℕ) (message pads : List ℕ) → List ℕ
 unmasked k side message pads =
     concat k (λ l. tabulate 32 (λ j. getD message (64 * l + 32 * side l + j) 0 ⊕ getD pads (32 * l + j) 0))
 
@@ -43,47 +43,33 @@ nodesFound side totals zero = []
 nodesFound side totals (suc level) = nodesFound side totals level ++ nextNode side totals (nodesFound side totals level) level
 
 -- what the sender finds in a tree, from its parts of the message and of the pads
-abbrev pub treeSiblings : ℕ → (ℕ → ℕ) → List ℕ → List ℕ → List ℕ
+abbrev pub treeSiblings : (k : ℕ) (side : ℕ → ℕ) (message pads : List ℕ) → List ℕ
 treeSiblings k side message pads = nodesFound side (unmasked k side message pads) k
 
 -- the kept table (siblings) has these nodes in base-transfer order
-unfoldable pub siblingsOf : ℕ → List ℕ → List ℕ → List ℕ → List ℕ
+unfoldable pub siblingsOf : (k : ℕ) (delta pads message : List ℕ) → List ℕ
 siblingsOf k delta pads message =
     concat (treesOf k) (λ i. treeSiblings k (sideOf k (deltaOf k delta i)) (treePart k 64 i message) (treePart k 32 i pads))
 
 -- ---- what an honest setup has
 
 -- of each base transfer's two pads, pad 0 before pad 1, the one that the sender has
-unfoldable pub senderBasePads : ℕ → List ℕ → List ℕ → List ℕ
+unfoldable pub senderBasePads : (k : ℕ) (delta pads : List ℕ) → List ℕ
 senderBasePads k delta pads =
     concat (treesOf k) (λ i. concat k (λ l. part (64 * l + 32 * sideOf k (deltaOf k delta i) l) 32 (treePart k 64 i pads)))
 
 -- the nodes beside the paths of the receiver's trees, in base-transfer order
-unfoldable pub besidePaths : ℕ → List ℕ → List ℕ → List ℕ
+unfoldable pub besidePaths : (k : ℕ) (delta roots : List ℕ) → List ℕ
 besidePaths k delta roots = concat (treesOf k) (λ i. concat k (siblingNode k (rootOf roots i) (deltaOf k delta i)))
 
 -- ---- the steps' promises: 'Steps and their turning away'
 
--- chooser setup: roots 32 × n bytes, base pads 8,192, message out 8,192. 1, 5
-unfoldable pub receiverSetupAnswer : ℕ → ℕ → ℕ → ℕ → Answer
-receiverSetupAnswer k roots pads message =
-    unless (widthAllowed k) Width
-    (unless (both (eqb roots (32 * treesOf k)) (both (eqb pads 8192) (eqb message 8192))) Length
-    Done)
-
 -- all that the receiver's setup promises, whatever it is given: its answer, and what the message then holds
 pub record ReceiverSetup (width : ℕ) (roots pads message : List ℕ) (answer : Answer) (message′ : List ℕ) : Type 0 where
-  pub answered : answer ≡ receiverSetupAnswer width (length roots) (length pads) (length message)
+  pub answered : answer ≡ firstOf (receiverSetupOrder width (length roots) (length pads) (length message))
   pub written : message′ ≡ whenDone answer (messageOf width roots pads) message
-
--- keeper setup: D 16, base pads 4,096, message 8,192, kept table out 4,096. 1, 5
-unfoldable pub senderSetupAnswer : ℕ → ℕ → ℕ → ℕ → ℕ → Answer
-senderSetupAnswer k delta pads message siblings =
-    unless (widthAllowed k) Width
-    (unless (both (eqb delta 16) (both (eqb pads 4096) (both (eqb message 8192) (eqb siblings 4096)))) Length
-    Done)
 
 -- all that the sender's setup promises, whatever it is given: its answer, and what the siblings then hold
 pub record SenderSetup (width : ℕ) (delta pads message siblings : List ℕ) (answer : Answer) (siblings′ : List ℕ) : Type 0 where
-  pub answered : answer ≡ senderSetupAnswer width (length delta) (length pads) (length message) (length siblings)
+  pub answered : answer ≡ firstOf (senderSetupOrder width (length delta) (length pads) (length message) (length siblings))
   pub written : siblings′ ≡ whenDone answer (siblingsOf width delta pads message) siblings

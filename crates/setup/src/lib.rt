@@ -9,8 +9,8 @@ ghost use Rattle.setup.specs.Setup.{ReceiverSetup, SenderSetup};
 pub fn receiver_setup(width: u32, roots: &[u8], base_pads: &[u8], message: &mut [u8]) -> Answer
     ensures { λ r. ⌜ ReceiverSetup width (now (roots .entry)) (now («base_pads» .entry)) (now (message .entry)) r (now (message .exit)) ⌝ }
 {
-    let answer = receiver::setup_answer(width, roots.len(), base_pads.len(), message.len());
-    if let Answer::Done = answer {
+    let answer = orders::receiver_setup(width, roots.len(), base_pads.len(), message.len());
+    if answer::is_done(answer) {
         receiver::write_message(width as usize, roots, base_pads, message);
     }
     answer
@@ -26,14 +26,14 @@ pub fn sender_setup(
 ) -> Answer
     ensures { λ r. ⌜ SenderSetup width (now (delta .entry)) (now («base_pads» .entry)) (now (message .entry)) (now (siblings .entry)) r (now (siblings .exit)) ⌝ }
 {
-    let answer = sender::setup_answer(
+    let answer = orders::sender_setup(
         width,
         delta.len(),
         base_pads.len(),
         message.len(),
         siblings.len(),
     );
-    if let Answer::Done = answer {
+    if answer::is_done(answer) {
         sender::find_siblings(width as usize, delta, base_pads, message, siblings);
     }
     answer

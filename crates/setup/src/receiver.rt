@@ -1,32 +1,12 @@
 // The receiver's message, four trees at a time.
-use answer::Answer;
 ghost use mathlib.Core.Path.{_≡_};
 ghost use mathlib.Core.Bool.{true};
 ghost use Prim.Native.Nat.{_*_, _≤_};
 ghost use lib.ListN.{length};
 ghost use Rattle.words.specs.Bytes.{concat};
-ghost use Rattle.answer.specs.Answer.{widthAllowed};
-ghost use Rattle.tree.specs.Layout.{treesOf, rootOf, treePart};
-ghost use Rattle.setup.specs.Setup.{treeMessage, messageOf, receiverSetupAnswer};
-
-// The answer of the receiver's setup, from its width and the lengths of its ranges.
-pub fn setup_answer(width: u32, roots: usize, pads: usize, message: usize) -> Answer
-    ensures { λ r. ⌜ r ≡ receiverSetupAnswer width roots pads message ⌝ }
-{
-    if !answer::width_allowed(width) {
-        return Answer::Width;
-    }
-    if roots != 32 * (128 / (width as usize)) {
-        return Answer::Length;
-    }
-    if pads != 8192 {
-        return Answer::Length;
-    }
-    if message != 8192 {
-        return Answer::Length;
-    }
-    Answer::Done
-}
+ghost use Rattle.sizes.specs.Sizes.{widthAllowed, rootsLength, receiverBasePadsLength, setupMessageLength};
+ghost use Rattle.tree.specs.Layout.{rootOf, treePart};
+ghost use Rattle.setup.specs.Setup.{treeMessage, messageOf};
 
 // The messages of four trees of k levels, from their roots and base pads.
 fn four_messages(k: usize, roots: &[u8], pads: &[u8], message: &mut [u8])
@@ -44,7 +24,7 @@ fn four_messages(k: usize, roots: &[u8], pads: &[u8], message: &mut [u8])
 
 // The message of all trees.
 pub fn write_message(k: usize, roots: &[u8], pads: &[u8], message: &mut [u8])
-    requires { ⌜ (widthAllowed k ≡ true) × (length (now roots) ≡ 32 * treesOf k) × (length (now pads) ≡ 8192) × (length (now message) ≡ 8192) ⌝ }
+    requires { ⌜ (widthAllowed k ≡ true) × (length (now roots) ≡ rootsLength k) × (length (now pads) ≡ receiverBasePadsLength) × (length (now message) ≡ setupMessageLength) ⌝ }
     ensures { λ _. ⌜ now (message .exit) ≡ messageOf k (now (roots .entry)) (now (pads .entry)) ⌝ }
 {
     let n = 128 / k;

@@ -1,5 +1,4 @@
 // The sender's siblings. Delta enters as a side for each base transfer, and a side as a mask: never a branch or an address.
-use answer::Answer;
 ghost use mathlib.Core.Path.{_≡_};
 ghost use mathlib.Core.Bool.{true};
 ghost use Prim.Native.Nat.{ℕ, _+_, _-_, _*_, _/_, _%_, _^_, _≤_, _<_};
@@ -7,40 +6,11 @@ ghost use lib.ListN.{length, getD};
 ghost use Rattle.words.specs.Bytes.{tabulate, part};
 ghost use Rattle.words.specs.Lanes.{laneBytes};
 ghost use Rattle.words.specs.Xor.{_⊕_, xorEach, xorPart};
-ghost use Rattle.answer.specs.Answer.{widthAllowed};
 ghost use Rattle.tree.specs.Lanes.{totalWord};
-ghost use Rattle.tree.specs.Layout.{columns, treesOf};
-ghost use Rattle.setup.specs.Setup.{unmasked, nodesFound, siblingsOf, senderSetupAnswer};
+ghost use Rattle.sizes.specs.Sizes.{widthAllowed, columns, treesOf, deltaLength, senderBasePadsLength, setupMessageLength, siblingsLength};
+ghost use Rattle.setup.specs.Setup.{unmasked, nodesFound, siblingsOf};
 ghost use Rattle.tree.specs.Sides.{Sides};
 ghost use Rattle.setup.specs.Found.{foundIn};
-
-// The answer of the sender's setup, from its width and the lengths of its ranges.
-pub fn setup_answer(
-    width: u32,
-    delta: usize,
-    pads: usize,
-    message: usize,
-    siblings: usize,
-) -> Answer
-    ensures { λ r. ⌜ r ≡ senderSetupAnswer width delta pads message siblings ⌝ }
-{
-    if !answer::width_allowed(width) {
-        return Answer::Width;
-    }
-    if delta != 16 {
-        return Answer::Length;
-    }
-    if pads != 4096 {
-        return Answer::Length;
-    }
-    if message != 8192 {
-        return Answer::Length;
-    }
-    if siblings != 4096 {
-        return Answer::Length;
-    }
-    Answer::Done
-}
 
 // Fills out with one side's total of two, unmasked by a pad.
 fn unmask(out: &mut [u8], totals: &[u8], pad: &[u8], side: u8)
@@ -59,7 +29,7 @@ fn unmask(out: &mut [u8], totals: &[u8], pad: &[u8], side: u8)
 // The unmasked totals of all base transfers.
 fn unmask_all(sides: &[u8], pads: &[u8], message: &[u8], siblings: &mut [u8])
     requires { ⌜ (length (now sides) ≡ 128) × Sides (now sides) ⌝ }
-    requires { ⌜ (length (now pads) ≡ 4096) × (length (now message) ≡ 8192) × (length (now siblings) ≡ 4096) ⌝ }
+    requires { ⌜ (length (now pads) ≡ senderBasePadsLength) × (length (now message) ≡ setupMessageLength) × (length (now siblings) ≡ siblingsLength) ⌝ }
     ensures { λ _. ⌜ now (siblings .exit) ≡ unmasked columns (λ c. getD (now (sides .entry)) c 0) (now (message .entry)) (now (pads .entry)) ⌝ }
 {
     let mut c = 0;
@@ -152,7 +122,7 @@ fn four_trees(k: usize, sides: &[u8], siblings: &mut [u8])
 
 // The siblings of all trees, in the place of their unmasked totals.
 fn all_trees(k: usize, sides: &[u8], siblings: &mut [u8])
-    requires { ⌜ (widthAllowed k ≡ true) × (length (now sides) ≡ 128) × Sides (now sides) × (length (now siblings) ≡ 4096) ⌝ }
+    requires { ⌜ (widthAllowed k ≡ true) × (length (now sides) ≡ 128) × Sides (now sides) × (length (now siblings) ≡ siblingsLength) ⌝ }
     ensures { λ _. ⌜ now (siblings .exit) ≡ foundIn k (treesOf k) (now (sides .entry)) (now (siblings .entry)) ⌝ }
 {
     let n = 128 / k;
@@ -171,7 +141,7 @@ fn all_trees(k: usize, sides: &[u8], siblings: &mut [u8])
 
 // The siblings of all trees, from the pads that the sender has and a message.
 pub fn find_siblings(k: usize, delta: &[u8], pads: &[u8], message: &[u8], siblings: &mut [u8])
-    requires { ⌜ (widthAllowed k ≡ true) × (length (now delta) ≡ 16) × (length (now pads) ≡ 4096) × (length (now message) ≡ 8192) × (length (now siblings) ≡ 4096) ⌝ }
+    requires { ⌜ (widthAllowed k ≡ true) × (length (now delta) ≡ deltaLength) × (length (now pads) ≡ senderBasePadsLength) × (length (now message) ≡ setupMessageLength) × (length (now siblings) ≡ siblingsLength) ⌝ }
     ensures { λ _. ⌜ now (siblings .exit) ≡ siblingsOf k (now (delta .entry)) (now (pads .entry)) (now (message .entry)) ⌝ }
 {
     let side = tree::side::all(k, delta);

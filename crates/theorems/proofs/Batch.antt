@@ -11,7 +11,8 @@ use Rattle.words.specs.Xor.{xorList, scale}
 use Rattle.words.proofs.Xor.{bit-lt}
 use Rattle.words.proofs.Sums.{bit-scale}
 use Rattle.words.proofs.Lists.{bitAt-xor, scale-at, scale-length}
-use Rattle.tree.specs.Layout.{columns, treesOf, columnOf}
+use Rattle.sizes.specs.Sizes.{columns, treesOf}
+use Rattle.tree.specs.Layout.{columnOf}
 use Rattle.setup.specs.Setup.{besidePaths}
 use Rattle.columns.specs.Columns.{choicesOf, receiverTable, correctionOf, senderTable}
 use Rattle.columns.proofs.Tables.{uOf-length, receiverColumn-length, receiver-table}

@@ -17,7 +17,8 @@ use Rattle.gf64.specs.Field.{foldBytes}
 use Rattle.gf64.specs.Check.{columnSide, choiceSide}
 use Rattle.gf64.proofs.Bytes.{foldBytes-xor, foldBytes-scale}
 use Rattle.tree.specs.Tree.{streamByte}
-use Rattle.tree.specs.Layout.{columns, treesOf, deltaOf, treePart, columnOf}
+use Rattle.sizes.specs.Sizes.{columns, treesOf}
+use Rattle.tree.specs.Layout.{deltaOf, treePart, columnOf}
 use Rattle.setup.specs.Setup.{besidePaths}
 use Rattle.columns.specs.Columns.{treeCorrection, besideAt, senderColumn, senderTable}
 use Rattle.columns.proofs.Tables.{uOf-length, receiverColumn-length, senderColumn-length, correctionOf-length, correction-part, column-tree, receiver-table, sender-table}

@@ -1,8 +1,8 @@
 -- Demand 2 holds: of two honest sides every step is done, and their rows and pads agree. Assumes nothing.
 use mathlib.Core.Path.{_≡_, sym, ap, ap₂, _∙_, subst}
-use mathlib.Core.Bool.{Bool, true, false}
+use mathlib.Core.Bool.{Bool, true, false, cond}
 use mathlib.Core.Logic.{_⊎_, inl, inr}
-use mathlib.Core.List.{List, _++_}
+use mathlib.Core.List.{List, [], _∷_, _++_}
 use Prim.Native.Nat.{ℕ, _+_, _-_, _*_, _<_, _≤_}
 use native.Mathlib.Nat.{mul-comm}
 use native.Mathlib.Omega.{arith}
@@ -17,10 +17,10 @@ use Rattle.words.proofs.Lists.{xorEach-cancel, xorEach-zero, zeros-at, scale-ze
 use Rattle.words.proofs.Concat.{concat-part, part-part}
 use Rattle.answer.specs.declared.Answer.{Answer}
 use Rattle.answer.specs.declared.Answer.the-variants.{Done, Check}
-use Rattle.answer.specs.Answer.{unless, whenDone, widthAllowed}
-use Rattle.answer.proofs.Laws.{both-yes}
-use Rattle.tree.specs.Layout.{columns, treesOf, columnLength}
-use Rattle.tree.proofs.Widths.{Fits, width-fits}
+use Rattle.answer.specs.Answer.{whenDone, Order}
+use Rattle.answer.proofs.Order.{AllHold, hold-more, done-when, last-decides}
+use Rattle.sizes.specs.Sizes.{widthAllowed, columns, columnLength, deltaLength, rootsLength, siblingsLength, tableLength, correctionLength, checkMessageLength, receiverPadsLength, senderPadsLength}
+use Rattle.sizes.proofs.Widths.{Fits, width-fits}
 use Rattle.setup.specs.Setup.{senderBasePads, besidePaths, ReceiverSetup, SenderSetup}
 use Rattle.columns.specs.Columns.{choicesOf, receiverTable, correctionOf, senderTable}
 use Rattle.columns.proofs.Tables.{uOf-length, correctionOf-length, receiverTable-length, senderTable-length}
@@ -28,9 +28,10 @@ use Rattle.pads.specs.Pads.{rowOf, padOf, receiverPads, senderPads}
 use Rattle.pads.proofs.Inputs.{pad-length}
 use Rattle.consistency.specs.Message.{checkMessage, accepts}
 use Rattle.consistency.proofs.Laws.{message-length}
-use Rattle.session.specs.declared.Record.{Record}
-use Rattle.session.specs.Steps.{stageReady, stageOpen, openAnswer, withBatch, endAnswer, withoutBatch, verifyLengths, SenderCorrect}
-use Rattle.session.proofs.Named.{done-when, blocks-named, start-named, correct-named, answer-named, verify-named}
+use Rattle.rules.specs.declared.Record.{Record}
+use Rattle.rules.specs.Orders.{stageReady, stageOpen, withBatch, withoutBatch, has, mayOpen, mayEnd, beforeCheck}
+use Rattle.rules.proofs.Allowed.{blocks-allowed, batch-follows}
+use Rattle.session.specs.Steps.{SenderCorrect}
 use Rattle.theorems.specs.Errors.{Sent}
 use Rattle.theorems.specs.Demand2.{Ready, HonestBatch, ended, Demand2}
 use Rattle.theorems.specs.Demand3.{Run, Accepts, Closes}
@@ -96,18 +97,29 @@ opens r r₁ width batch blocks ready e = record {
 }
 
 -- a batch may be opened, and an open one be ended
-may-open : (r : Record) (width batch blocks : ℕ) (lengths : Bool) → Ready r width → widthAllowed width ≡ true → r .last < batch
-    → 1 ≤ blocks → blocks ≤ 15 → lengths ≡ true → openAnswer r batch blocks lengths ≡ Done
-may-open r width batch blocks lengths ready allowed next low high named =
-    done-when _ _ _ _ _ (ap widthAllowed (ready .wide) ∙ allowed) (eq-eqb _ _ (ready .ready))
-    (both-yes _ _ (lt-ltb 0 batch (omega (arith, next))) (lt-ltb (r .last) batch next)) (blocks-named blocks low high) named
+may-open : (r : Record) (width batch blocks : ℕ) → Ready r width → widthAllowed width ≡ true → r .last < batch → 1 ≤ blocks → blocks ≤ 15
+    → AllHold (mayOpen r batch blocks)
+may-open r width batch blocks ready allowed next low high =
+    (ap widthAllowed (ready .wide) ∙ allowed, (eq-eqb _ _ (ready .ready), (batch-follows (r .last) batch next, (blocks-allowed blocks low high, tt))))
 
-may-end : (r : Record) (width batch blocks : ℕ) (lengths : Bool) → Opened r width batch blocks → widthAllowed width ≡ true → 0 < batch
-    → 1 ≤ blocks → blocks ≤ 15 → lengths ≡ true → endAnswer r lengths ≡ Done
-may-end r width batch blocks lengths opened allowed some low high named =
-    done-when _ _ _ _ _ (ap widthAllowed (opened .wide) ∙ allowed) (eq-eqb _ _ (opened .open-now))
-    (lt-ltb 0 (r .last) (omega (arith, opened .last-is)))
-    (blocks-named (r .blocks) (omega (arith, opened .blocks-are)) (omega (arith, opened .blocks-are))) named
+may-end : (r : Record) (width batch blocks : ℕ) → Opened r width batch blocks → widthAllowed width ≡ true → 0 < batch → 1 ≤ blocks → blocks ≤ 15
+    → AllHold (mayEnd r)
+may-end r width batch blocks opened allowed some low high = (
+  ap widthAllowed (opened .wide) ∙ allowed,
+  (
+    eq-eqb _ _ (opened .open-now),
+    (
+      lt-ltb 0 (r .last) (omega (arith, opened .last-is)),
+      (blocks-allowed (r .blocks) (omega (arith, opened .blocks-are)) (omega (arith, opened .blocks-are)), tt),
+    ),
+  ),
+)
+
+-- and four lengths are those named
+four-named : (cs : Order) (a a′ b b′ c c′ d d′ : ℕ) → AllHold cs → a ≡ a′ → b ≡ b′ → c ≡ c′ → d ≡ d′
+    → AllHold (cs ++ (has a a′ ∷ has b b′ ∷ has c c′ ∷ has d d′ ∷ []))
+four-named cs a a′ b b′ c c′ d d′ h p q r s =
+    hold-more cs (has a a′ ∷ has b b′ ∷ has c c′ ∷ has d d′ ∷ []) h (eq-eqb a a′ p, (eq-eqb b b′ q, (eq-eqb c c′ r, (eq-eqb d d′ s, tt))))
 
 ended-is : (r : Record) (width batch blocks : ℕ) → Opened r width batch blocks → withoutBatch r ≡ ended width batch
 ended-is r width batch blocks opened =
@@ -141,9 +153,11 @@ module _ (h : HonestBatch) where
   start-done =
       let wide = h .receiver-ready .wide in
       h .receiver-start .answered
-      ∙ may-open (h .r) k (h .batch) (h .blocks) _ (h .receiver-ready) (h .width-allowed) (h .receiver-next) (h .some-blocks) (h .few-blocks)
-      (start-named (h .r .width) len _ _ _ _ (h .roots-length ∙ ap (λ (w : ℕ). 32 * treesOf w) (sym wide)) (h .choices-length) (h .v-length)
-      (h .correction-length ∙ ap (λ (w : ℕ). (treesOf w - 1) * len) (sym wide)))
+      ∙ done-when _
+      (four-named (mayOpen (h .r) (h .batch) (h .blocks)) _ (rootsLength (h .r .width)) _ len _ (tableLength (h .blocks)) _ (correctionLength (h .r .width) (h .blocks))
+      (may-open (h .r) k (h .batch) (h .blocks) (h .receiver-ready) (h .width-allowed) (h .receiver-next) (h .some-blocks) (h .few-blocks))
+      (h .roots-length ∙ ap rootsLength (sym wide)) (h .choices-length) (h .v-length)
+      (h .correction-length ∙ ap (λ (w : ℕ). correctionLength w (h .blocks)) (sym wide)))
 
   choices-is : h .choices′ ≡ choicesOf k (h .batch) len (h .roots)
   choices-is = h .receiver-start .chosen ∙ got (h .a₃) _ _ start-done ∙ ap (λ (w : ℕ). choicesOf w (h .batch) len (h .roots)) (h .receiver-ready .wide)
@@ -163,9 +177,11 @@ module _ (h : HonestBatch) where
   correct-done =
       let wide = h .sender-ready .wide in
       h .sender-correct .answered
-      ∙ may-open (h .q) k (h .batch) (h .blocks) _ (h .sender-ready) (h .width-allowed) (h .sender-next) (h .some-blocks) (h .few-blocks)
-      (correct-named (h .q .width) len _ _ _ _ (ap length siblings-is ∙ besidePaths-length k (h .delta) (h .roots) ∙ width .single) (h .delta-length)
-      (ap length correction-is ∙ correctionOf-length k (h .batch) len (h .roots) ∙ ap (λ (w : ℕ). (treesOf w - 1) * len) (sym wide)) (h .w-length))
+      ∙ done-when _
+      (four-named (mayOpen (h .q) (h .batch) (h .blocks)) _ siblingsLength _ deltaLength _ (correctionLength (h .q .width) (h .blocks)) _ (tableLength (h .blocks))
+      (may-open (h .q) k (h .batch) (h .blocks) (h .sender-ready) (h .width-allowed) (h .sender-next) (h .some-blocks) (h .few-blocks))
+      (ap length siblings-is ∙ besidePaths-length k (h .delta) (h .roots) ∙ width .single) (h .delta-length)
+      (ap length correction-is ∙ correctionOf-length k (h .batch) len (h .roots) ∙ ap (λ (w : ℕ). correctionLength w (h .blocks)) (sym wide)) (h .w-length))
 
   w-is : h .w′ ≡ senderTable k (h .batch) len (besidePaths k (h .delta) (h .roots)) (h .delta) (correctionOf k (h .batch) len (h .roots))
   w-is =
@@ -182,12 +198,15 @@ module _ (h : HonestBatch) where
 
   answer-done : h .a₅ ≡ Done
   answer-done =
-      let same : len ≡ columnLength (h .r₁ .blocks) = ap columnLength (sym (receiver-opened .blocks-are)) in
+      let blocks = h .r₁ .blocks in
+      let same : h .blocks ≡ h .r₁ .blocks = sym (receiver-opened .blocks-are) in
       h .receiver-answer .answered
-      ∙ may-end (h .r₁) k (h .batch) (h .blocks) _ receiver-opened (h .width-allowed) later (h .some-blocks) (h .few-blocks)
-      (answer-named (h .r₁ .blocks) _ _ _ _ (ap length choices-is ∙ uOf-length k (h .batch) len _ ∙ same)
-      (ap length v-is ∙ receiverTable-length k (h .batch) len (h .roots) (width .columns) ∙ ap (λ (n : ℕ). columns * n) same)
-      (h .message-length) (h .pads-length ∙ ap (λ (n : ℕ). 2048 * n) (sym (receiver-opened .blocks-are))))
+      ∙ done-when _
+      (four-named (mayEnd (h .r₁)) _ (columnLength blocks) _ (tableLength blocks) _ checkMessageLength _ (receiverPadsLength blocks)
+      (may-end (h .r₁) k (h .batch) (h .blocks) receiver-opened (h .width-allowed) later (h .some-blocks) (h .few-blocks))
+      (ap length choices-is ∙ uOf-length k (h .batch) len _ ∙ ap columnLength same)
+      (ap length v-is ∙ receiverTable-length k (h .batch) len (h .roots) (width .columns) ∙ ap tableLength same)
+      (h .message-length) (h .pads-length ∙ ap receiverPadsLength same))
 
   message-is : h .message′ ≡ checkMessage len (h .key) (choicesOf k (h .batch) len (h .roots)) (receiverTable k (h .batch) len (h .roots))
   message-is =
@@ -200,25 +219,25 @@ module _ (h : HonestBatch) where
   sent = record { roots = h .roots; width = k; batch = h .batch; blocks = h .blocks; correction = h .correction′; message = h .message′; key = h .key }
 
   unrefused : (h .a₆ ≡ Done) ⊎ (h .a₆ ≡ Check)
-  unrefused = either-way verdict (h .sender-verify .answered ∙ got (endAnswer (h .q₁) lengths) (unless verdict Check Done) (endAnswer (h .q₁) lengths) ends)
+  unrefused = either-way verdict (h .sender-verify .answered ∙ last-decides asked verdict Check ends)
     where
       verdict : Bool
       verdict = accepts (columnLength (h .q₁ .blocks)) (h .key) (h .w′) (h .delta) (h .message′)
 
-      lengths : Bool
-      lengths = verifyLengths (h .q₁ .blocks) (length (h .w′)) (length (h .delta)) (length (h .message′)) (length (h .bothPads))
+      asked : Order
+      asked = beforeCheck (h .q₁) (length (h .w′)) (length (h .delta)) (length (h .message′)) (length (h .bothPads))
 
-      same : len ≡ columnLength (h .q₁ .blocks)
-      same = ap columnLength (sym (sender-opened .blocks-are))
+      same : h .blocks ≡ h .q₁ .blocks
+      same = sym (sender-opened .blocks-are)
 
-      ends : endAnswer (h .q₁) lengths ≡ Done
+      ends : AllHold asked
       ends =
-          may-end (h .q₁) k (h .batch) (h .blocks) lengths sender-opened (h .width-allowed) later (h .some-blocks) (h .few-blocks)
-          (verify-named (h .q₁ .blocks) _ _ _ _
-          (ap length w-is ∙ senderTable-length k (h .batch) len _ (h .delta) _ (width .columns) ∙ ap (λ (n : ℕ). columns * n) same) (h .delta-length)
-          (ap length message-is ∙ message-length len (h .key) _ _) (h .both-pads-length ∙ ap (λ (n : ℕ). 4096 * n) (sym (sender-opened .blocks-are))))
+          four-named (mayEnd (h .q₁)) _ (tableLength (h .q₁ .blocks)) _ deltaLength _ checkMessageLength _ (senderPadsLength (h .q₁ .blocks))
+          (may-end (h .q₁) k (h .batch) (h .blocks) sender-opened (h .width-allowed) later (h .some-blocks) (h .few-blocks))
+          (ap length w-is ∙ senderTable-length k (h .batch) len _ (h .delta) _ (width .columns) ∙ ap tableLength same) (h .delta-length)
+          (ap length message-is ∙ message-length len (h .key) _ _) (h .both-pads-length ∙ ap senderPadsLength same)
 
-      either-way : (x : Bool) → h .a₆ ≡ unless x Check Done → (h .a₆ ≡ Done) ⊎ (h .a₆ ≡ Check)
+      either-way : (x : Bool) → h .a₆ ≡ cond x Done Check → (h .a₆ ≡ Done) ⊎ (h .a₆ ≡ Check)
       either-way true e = inl e
       either-way false e = inr e
 

@@ -1,32 +1,34 @@
 -- Demand 3 holds, whatever is sent. Assumes nothing.
 use mathlib.Core.Path.{_≡_, refl, sym, ap, ap₂, _∙_, subst}
-use mathlib.Core.Bool.{Bool, true, false}
+use mathlib.Core.Bool.{Bool, true, false, not, _&&_, cond}
 use mathlib.Core.Logic.{_⊎_, inl, inr, _↔_, _≢_}
-use mathlib.Core.List.{List}
+use mathlib.Core.List.{List, [], _∷_}
 use Prim.Native.Nat.{ℕ, _+_, _-_, _*_, _<_}
 use native.Mathlib.Nat.{zero-mul, one-mul}
 use native.Mathlib.Omega.{arith}
 use lib.Arith.{digits-div}
+use lib.Dec.{eqb}
 use lib.ListN.{length}
 use borrow.Author.Tests.{eqb-true, eq-eqb}
 use Rattle.words.specs.Bits.{bitAt}
 use Rattle.words.proofs.Xor.{digit, bit-lt}
 use Rattle.words.proofs.Sums.{ofBits-same}
 use Rattle.words.proofs.Concat.{place-fits}
-use Rattle.tree.specs.Layout.{columns, treesOf, columnLength}
-use Rattle.tree.proofs.Widths.{Fits, width-fits}
+use Rattle.sizes.specs.Sizes.{columns, treesOf, columnLength, correctionLength, tableLength}
+use Rattle.sizes.proofs.Widths.{Fits, width-fits}
 use Rattle.answer.specs.declared.Answer.{Answer}
-use Rattle.answer.specs.declared.Answer.the-variants.{Done, Width, Stage, Batch, Blocks, Length, Check}
-use Rattle.answer.specs.Answer.{unless, whenDone, whenFailed}
-use Rattle.answer.proofs.Laws.{apart, every-of, every-is, differ}
+use Rattle.answer.specs.declared.Answer.the-variants.{Done, Check}
+use Rattle.answer.specs.Answer.{number, isDone, Order, whenDone, whenFailed}
+use Rattle.answer.proofs.Order.{apart, AllHold, reached, last-decides}
 use Rattle.setup.specs.Setup.{besidePaths}
 use Rattle.setup.proofs.Answers.{receiver-fits}
 use Rattle.columns.specs.Columns.{senderTable}
 use Rattle.columns.proofs.Tables.{senderTable-length}
 use Rattle.consistency.specs.Message.{sidesEqual, accepts}
+use Rattle.consistency.proofs.Every.{every-of, every-is}
 use Rattle.pads.specs.Pads.{senderPads}
-use Rattle.session.specs.Steps.{inOrder, withoutBatch, closed}
-use Rattle.session.proofs.Order.{all-hold, correct-fits, verify-fits}
+use Rattle.rules.specs.Orders.{withoutBatch, closed, beforeCheck}
+use Rattle.rules.proofs.Fits.{correct-fits, verify-fits}
 use Rattle.theorems.specs.Errors.{Sent, lengthOf, columnError, foldedError}
 use Rattle.theorems.specs.Demand3.{Run, SidesEqual, ErrorsMeet, EveryColumn, TreePasses, Accepts, Closes, Demand3}
 use Rattle.theorems.proofs.Setup.{siblings-are}
@@ -34,22 +36,13 @@ use Rattle.theorems.proofs.Column.{column-law}
 
 -- ---- the verify's answer
 
-neither : (answer a : Answer) → a ≢ Done → a ≢ Check → answer ≡ a → (answer ≡ Done) ⊎ (answer ≡ Check) → ⊥
-neither answer a done check e (inl q) = done (sym e ∙ q)
-neither answer a done check e (inr q) = check (sym e ∙ q)
+-- neither done nor a failed check
+abbrev refusal : Answer → Bool
+refusal a = not (isDone a) && not (eqb (number a) (number Check))
 
--- where it is done or the check failed, the conditions before the check hold, and the check decides
-judged : (w s b p l accepted : Bool) (answer : Answer)
-    → answer ≡ whenDone (inOrder w s b p l) (unless accepted Check Done) (inOrder w s b p l)
-    → (answer ≡ Done) ⊎ (answer ≡ Check)
-    → (inOrder w s b p l ≡ Done) × (answer ≡ unless accepted Check Done)
-unfolding inOrder
-judged false s b p l x a e or = absurd (neither a Width (differ Width Done (λ z. omega arith)) (differ Width Check (λ z. omega arith)) e or)
-judged true false b p l x a e or = absurd (neither a Stage (differ Stage Done (λ z. omega arith)) (differ Stage Check (λ z. omega arith)) e or)
-judged true true false p l x a e or = absurd (neither a Batch (differ Batch Done (λ z. omega arith)) (differ Batch Check (λ z. omega arith)) e or)
-judged true true true false l x a e or = absurd (neither a Blocks (differ Blocks Done (λ z. omega arith)) (differ Blocks Check (λ z. omega arith)) e or)
-judged true true true true false x a e or = absurd (neither a Length (differ Length Done (λ z. omega arith)) (differ Length Check (λ z. omega arith)) e or)
-judged true true true true true x a e or = (refl, e)
+unrefused-is : (a : Answer) → (a ≡ Done) ⊎ (a ≡ Check) → refusal a ≡ false
+unrefused-is a (inl e) = ap refusal e
+unrefused-is a (inr e) = ap refusal e
 
 -- ---- a run
 
@@ -61,12 +54,13 @@ module _ (s : Sent) (delta : List ℕ) (run : Run s delta) where
   len = lengthOf s
 
   width : Fits k
-  width = width-fits k (receiver-fits _ _ _ _ (sym (run .receiver-setup .answered)) .0)
+  width = width-fits k (receiver-fits k (length (s .roots)) (length (run .basePads)) (length (run .setupMessage)) (ap isDone (sym (run .receiver-setup .answered))) .0)
 
-  correction-fits : length (s .correction) ≡ (treesOf k - 1) * len
+  correction-fits : length (s .correction) ≡ correctionLength k (s .blocks)
   correction-fits =
-      let all = all-hold _ _ _ _ _ (sym (run .sender-correct .answered)) in
-      correct-fits _ _ _ _ _ _ (all .4) .2 ∙ ap (λ (w : ℕ). (treesOf w - 1) * len) (run .same-width)
+      correct-fits (run .r) (s .batch) (s .blocks) (length (run .siblings′)) (length delta) (length (s .correction)) (length (run .table))
+      (ap isDone (sym (run .sender-correct .answered))) .4
+      ∙ ap (λ (w : ℕ). correctionLength w (s .blocks)) (run .same-width)
 
   -- the sender's table is that of the nodes beside the paths
   table-is : run .table′ ≡ senderTable k (s .batch) len (besidePaths k delta (s .roots)) delta (s .correction)
@@ -82,11 +76,11 @@ module _ (s : Sent) (delta : List ℕ) (run : Run s delta) where
       (column-law s correction-fits delta (width .some) (width .columns) (run .bytes) c lt)
 
   -- the verify tells of the batch whose table it was given
-  same-blocks : (blocks : ℕ) → length (run .table′) ≡ columns * columnLength blocks → blocks ≡ s .blocks
+  same-blocks : (blocks : ℕ) → length (run .table′) ≡ tableLength blocks → blocks ≡ s .blocks
   same-blocks blocks e =
       omega (arith, e, ap length table-is, senderTable-length k (s .batch) len (besidePaths k delta (s .roots)) delta (s .correction) (width .columns))
 
-  decided : (x : Bool) → accepts len (s .key) (run .table′) delta (s .message) ≡ x → run .answer ≡ unless x Check Done
+  decided : (x : Bool) → accepts len (s .key) (run .table′) delta (s .message) ≡ x → run .answer ≡ cond x Done Check
       → run .q .blocks ≡ s .blocks → Accepts s delta run ⊎ Closes s delta run
   unfolding accepts
   decided true e a same = inl record {
@@ -106,12 +100,21 @@ module _ (s : Sent) (delta : List ℕ) (run : Run s delta) where
         ∙ ap (λ (x : Answer). whenDone x (senderPads (run .q .blocks) (run .q .last) (run .table′) delta) (run .pads)) a;
   }
 
+  -- the conditions before the check hold, since none of them was answered; so the check decides
+  abbrev asked : Order
+  asked = beforeCheck (run .q) (length (run .table′)) (length delta) (length (s .message)) (length (run .pads))
+
+  abbrev verdict : Bool
+  verdict = accepts (columnLength (run .q .blocks)) (s .key) (run .table′) delta (s .message)
+
+  hold : AllHold asked
+  hold = reached refusal asked ((verdict, Check) ∷ []) refl (ap refusal (sym (run .sender-verify .answered)) ∙ unrefused-is (run .answer) (run .unrefused))
+
   decides : Accepts s delta run ⊎ Closes s delta run
   decides =
-      let verdict : Bool = accepts (columnLength (run .q .blocks)) (s .key) (run .table′) delta (s .message) in
-      let decision = judged _ _ _ _ _ verdict (run .answer) (run .sender-verify .answered) (run .unrefused) in
-      let same = same-blocks (run .q .blocks) (verify-fits _ _ _ _ _ (all-hold _ _ _ _ _ (decision .0) .4) .0) in
-      decided verdict (ap (λ (blocks : ℕ). accepts (columnLength blocks) (s .key) (run .table′) delta (s .message)) (sym same)) (decision .1) same
+      let same = same-blocks (run .q .blocks) (verify-fits (run .q) (length (run .table′)) (length delta) (length (s .message)) (length (run .pads)) hold .1) in
+      decided verdict (ap (λ (blocks : ℕ). accepts (columnLength blocks) (s .key) (run .table′) delta (s .message)) (sym same))
+      (run .sender-verify .answered ∙ last-decides asked verdict Check hold) same
 
   -- in each column of a tree that passes, delta's bit times the folded error is the error in the sent fold
   tree-meets : (i : ℕ) → i < treesOf k → TreePasses s delta (run .table′) i → (b : ℕ) → b < k

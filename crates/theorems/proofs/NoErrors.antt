@@ -10,7 +10,7 @@ use Rattle.words.specs.Xor.{xorList}
 use Rattle.words.proofs.Concat.{part-lt}
 use Rattle.gf64.specs.Field.{foldBytes}
 use Rattle.gf64.proofs.Bytes.{foldBytes-xor, foldBytes-zeros}
-use Rattle.tree.specs.Layout.{columns}
+use Rattle.sizes.specs.Sizes.{columns}
 use Rattle.columns.specs.Columns.{receiverTable, treeCorrection}
 use Rattle.consistency.specs.Message.{checkMessage, sentChoice, sentColumn}
 use Rattle.consistency.proofs.Laws.{sent-choice, sent-column}

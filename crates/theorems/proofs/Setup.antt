@@ -7,12 +7,12 @@ use native.Mathlib.Omega.{arith}
 use lib.ListN.{length}
 use Rattle.answer.specs.declared.Answer.{Answer}
 use Rattle.answer.specs.declared.Answer.the-variants.{Done}
-use Rattle.answer.specs.Answer.{widthAllowed, whenDone}
-use Rattle.tree.specs.Layout.{treesOf}
+use Rattle.answer.specs.Answer.{isDone, whenDone}
+use Rattle.sizes.specs.Sizes.{widthAllowed, treesOf, deltaLength, rootsLength, receiverBasePadsLength, setupMessageLength, siblingsLength}
 use Rattle.setup.specs.Setup.{messageOf, siblingsOf, senderBasePads, besidePaths, ReceiverSetup, SenderSetup}
 use Rattle.setup.proofs.Answers.{receiver-fits, receiver-done, sender-done}
 use Rattle.setup.proofs.Honest.{messageOf-length, senderBasePads-length, honest-setup, pads-enough}
-use Rattle.tree.proofs.Widths.{width-fits}
+use Rattle.sizes.proofs.Widths.{width-fits}
 
 module _ (width : ℕ) (roots pads message message′ delta siblings siblings′ : List ℕ) (answer answer′ : Answer)
     (received : ReceiverSetup width roots pads message answer message′)
@@ -24,22 +24,22 @@ module _ (width : ℕ) (roots pads message message′ delta siblings siblings′
   -- where both are done, the sender has exactly the nodes beside the paths of delta in the receiver's trees
   pub siblings-are : answer ≡ Done → answer′ ≡ Done → siblings′ ≡ besidePaths width delta roots
   siblings-are done done′ =
-      let fits = receiver-fits _ _ _ _ (sym (received .answered) ∙ done) in
+      let fits = receiver-fits width (length roots) (length pads) (length message) (ap isDone (sym (received .answered) ∙ done)) in
       sent .written
       ∙ ap (λ (a : Answer). whenDone a (siblingsOf width delta (senderBasePads width delta pads) message′) siblings) done′
       ∙ ap (siblingsOf width delta (senderBasePads width delta pads)) (message-is done)
       ∙ honest-setup width delta roots pads (omega (arith, pads-enough width, fits .2))
 
   -- and both are done at every width that is allowed, on ranges of the lengths named
-  pub both-done : widthAllowed width ≡ true → length roots ≡ 32 * treesOf width → length pads ≡ 8192 → length message ≡ 8192
-      → length delta ≡ 16 → length siblings ≡ 4096 → (answer ≡ Done) × (answer′ ≡ Done)
+  pub both-done : widthAllowed width ≡ true → length roots ≡ rootsLength width → length pads ≡ receiverBasePadsLength → length message ≡ setupMessageLength
+      → length delta ≡ deltaLength → length siblings ≡ siblingsLength → (answer ≡ Done) × (answer′ ≡ Done)
   both-done allowed r p m d s =
       let fits = width-fits width allowed in
-      let done = received .answered ∙ receiver-done _ _ _ _ (allowed, r, p, m) in
+      let done = received .answered ∙ receiver-done width _ _ _ (allowed, r, p, m) in
       let long : treesOf width * (64 * width) ≤ length pads = omega (arith, fits .pairs) in (
         done,
         sent .answered
-            ∙ sender-done _ _ _ _ _ (
+            ∙ sender-done width _ _ _ _ (
               allowed,
               d,
               senderBasePads-length width delta pads long ∙ fits .single,

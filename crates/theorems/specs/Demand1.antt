@@ -1,15 +1,16 @@
 -- Demand 1: every call of a step ends in done or in a refusal that paper 01 lists for that step, and a refusal alters nothing, except
 -- that a failed check closes the session. Assumes nothing.
 use mathlib.Core.Path.{_≡_}
-use mathlib.Core.Logic.{_⊎_, _≢_}
+use mathlib.Core.Logic.{_≢_}
 use mathlib.Core.List.{List, [], _∷_}
 use Prim.Native.Nat.{ℕ}
 use Rattle.answer.specs.declared.Answer.{Answer}
 use Rattle.answer.specs.declared.Answer.the-variants.{Done}
-use Rattle.answer.specs.Answer.{number, whenFailed}
+use Rattle.answer.specs.Answer.{whenFailed, Among}
 use Rattle.setup.specs.Setup.{ReceiverSetup, SenderSetup}
-use Rattle.session.specs.declared.Record.{Record}
-use Rattle.session.specs.Steps.{OpenSession, ReceiverStart, SenderCorrect, ReceiverAnswer, SenderVerify, closed}
+use Rattle.rules.specs.declared.Record.{Record}
+use Rattle.rules.specs.Orders.{closed}
+use Rattle.session.specs.Steps.{OpenSession, ReceiverStart, SenderCorrect, ReceiverAnswer, SenderVerify}
 
 -- what a step is lent and may alter: the record of a session, which the setups have not, and the byte ranges out. (A range in is lent to
 -- be read: its type lets no step write there.)
@@ -38,11 +39,6 @@ pub data Call : List ℕ → Answer → Lent → Lent → Type 0 where
   sender-verify : {r r′ : Record} {key : ℕ} {table delta message pads pads′ : List ℕ} {answer : Answer}
       → SenderVerify r key table delta message pads answer r′ pads′
       → Call (1 ∷ 2 ∷ 3 ∷ 4 ∷ 5 ∷ 6 ∷ []) answer (session r (pads ∷ [])) (session r′ (pads′ ∷ []))
-
--- the answer's number is one of these
-abbrev pub Among : List ℕ → Answer → Type 0
-Among [] answer = ⊥
-Among (n ∷ ns) answer = (number answer ≡ n) ⊎ Among ns answer
 
 -- what a failed check leaves: the record closed, and all ranges as they were
 abbrev pub shut : Lent → Lent

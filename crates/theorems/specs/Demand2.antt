@@ -2,19 +2,19 @@
 use mathlib.Core.Path.{_≡_}
 use mathlib.Core.Bool.{true}
 use mathlib.Core.List.{List}
-use Prim.Native.Nat.{ℕ, _+_, _-_, _*_, _^_, _<_, _≤_}
+use Prim.Native.Nat.{ℕ, _+_, _*_, _^_, _<_, _≤_}
 use lib.ListN.{length}
 use Rattle.words.specs.Bytes.{Bytes, part}
 use Rattle.words.specs.Bits.{bitAt}
 use Rattle.words.specs.Xor.{xorList, scale}
-use Rattle.tree.specs.Layout.{columns, treesOf, columnLength}
+use Rattle.sizes.specs.Sizes.{widthAllowed, columnLength, deltaLength, rootsLength, receiverBasePadsLength, setupMessageLength, siblingsLength, tableLength, correctionLength, checkMessageLength, receiverPadsLength, senderPadsLength}
 use Rattle.answer.specs.declared.Answer.{Answer}
 use Rattle.answer.specs.declared.Answer.the-variants.{Done}
-use Rattle.answer.specs.Answer.{widthAllowed}
 use Rattle.setup.specs.Setup.{senderBasePads, ReceiverSetup, SenderSetup}
 use Rattle.pads.specs.Pads.{rowOf}
-use Rattle.session.specs.declared.Record.{Record}
-use Rattle.session.specs.Steps.{stageReady, ReceiverStart, SenderCorrect, ReceiverAnswer, SenderVerify}
+use Rattle.rules.specs.declared.Record.{Record}
+use Rattle.rules.specs.Orders.{stageReady}
+use Rattle.session.specs.Steps.{ReceiverStart, SenderCorrect, ReceiverAnswer, SenderVerify}
 
 -- a session of a width, ready for a batch
 pub record Ready (r : Record) (width : ℕ) : Type 0 where
@@ -80,18 +80,18 @@ pub record HonestBatch : Type 0 where
   pub sender-ready : Ready q width
   pub sender-next : q .last < batch
   -- each range has the length named
-  pub roots-length : length roots ≡ 32 * treesOf width
-  pub delta-length : length delta ≡ 16
-  pub base-pads-length : length basePads ≡ 8192
-  pub setup-message-length : length setupMessage ≡ 8192
-  pub siblings-length : length siblings ≡ 4096
+  pub roots-length : length roots ≡ rootsLength width
+  pub delta-length : length delta ≡ deltaLength
+  pub base-pads-length : length basePads ≡ receiverBasePadsLength
+  pub setup-message-length : length setupMessage ≡ setupMessageLength
+  pub siblings-length : length siblings ≡ siblingsLength
   pub choices-length : length choices ≡ columnLength blocks
-  pub v-length : length v ≡ columns * columnLength blocks
-  pub correction-length : length correction ≡ (treesOf width - 1) * columnLength blocks
-  pub w-length : length w ≡ columns * columnLength blocks
-  pub message-length : length message ≡ 1032
-  pub pads-length : length pads ≡ 2048 * blocks
-  pub both-pads-length : length bothPads ≡ 4096 * blocks
+  pub v-length : length v ≡ tableLength blocks
+  pub correction-length : length correction ≡ correctionLength width blocks
+  pub w-length : length w ≡ tableLength blocks
+  pub message-length : length message ≡ checkMessageLength
+  pub pads-length : length pads ≡ receiverPadsLength blocks
+  pub both-pads-length : length bothPads ≡ senderPadsLength blocks
   -- the key is a number of 64 bits, and delta is a range of bytes
   pub key-fits : key < 2 ^ 64
   pub delta-bytes : Bytes delta

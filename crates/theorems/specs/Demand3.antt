@@ -7,14 +7,16 @@ use Prim.Native.Nat.{ℕ, _+_, _*_, _/_, _<_}
 use Rattle.words.specs.Bytes.{Bytes}
 use Rattle.words.specs.Bits.{bitAt}
 use Rattle.gf64.specs.Check.{columnSide, choiceSide}
-use Rattle.tree.specs.Layout.{columns, treesOf, deltaOf, columnOf}
+use Rattle.sizes.specs.Sizes.{columns, treesOf}
+use Rattle.tree.specs.Layout.{deltaOf, columnOf}
 use Rattle.answer.specs.declared.Answer.{Answer}
 use Rattle.answer.specs.declared.Answer.the-variants.{Done, Check}
 use Rattle.setup.specs.Setup.{senderBasePads, ReceiverSetup, SenderSetup}
 use Rattle.pads.specs.Pads.{senderPads}
 use Rattle.consistency.specs.Message.{sentChoice, sentColumn}
-use Rattle.session.specs.declared.Record.{Record}
-use Rattle.session.specs.Steps.{SenderCorrect, SenderVerify, withoutBatch, closed}
+use Rattle.rules.specs.declared.Record.{Record}
+use Rattle.rules.specs.Orders.{withoutBatch, closed}
+use Rattle.session.specs.Steps.{SenderCorrect, SenderVerify}
 use Rattle.theorems.specs.Errors.{Sent, lengthOf, columnError, foldedError}
 
 -- a run of the four steps under a secret. What a step is lent is named x, and what it leaves there x′; all of it is arbitrary
@@ -48,19 +50,19 @@ pub record Run (s : Sent) (delta : List ℕ) : Type 0 where
   pub bytes : Bytes (s .correction)
 
 -- the two sides of the check are equal in column c
-abbrev pub SidesEqual : Sent → List ℕ → List ℕ → ℕ → Type 0
+abbrev pub SidesEqual : (s : Sent) (delta table : List ℕ) (c : ℕ) → Type 0
 SidesEqual s delta table c =
     columnSide (s .key) (sentColumn (s .message) c) (columnOf (lengthOf s) table c) ≡ choiceSide (bitAt delta c) (sentChoice (s .message))
 
 -- the folded error of the column's tree, multiplied by delta's bit, is the error in sent fold c. Column i × k + b belongs to tree i
-abbrev pub ErrorsMeet : Sent → List ℕ → ℕ → Type 0
+abbrev pub ErrorsMeet : (s : Sent) (delta : List ℕ) (c : ℕ) → Type 0
 ErrorsMeet s delta c = bitAt delta c * foldedError s (c / s .width) ≡ columnError s c
 
 abbrev pub EveryColumn : (ℕ → Type 0) → Type 0
 EveryColumn P = (c : ℕ) → c < columns → P c
 
 -- a tree passes when the sides are equal in each of its own columns
-abbrev pub TreePasses : Sent → List ℕ → List ℕ → ℕ → Type 0
+abbrev pub TreePasses : (s : Sent) (delta table : List ℕ) (i : ℕ) → Type 0
 TreePasses s delta table i = (b : ℕ) → b < s .width → SidesEqual s delta table (i * s .width + b)
 
 -- the sender accepts: done, with the pads of its table under the number of the batch that the verify ends, and the record ready

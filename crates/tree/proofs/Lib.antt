@@ -5,5 +5,4 @@ pub mod Columns
 pub mod Lanes
 pub mod Telescope
 pub mod Streams
-pub mod Widths
 pub mod Sides

@@ -9,11 +9,11 @@ use Rattle.words.specs.Bits.{bitAt}
 use Rattle.words.proofs.Xor.{bit-lt}
 use Rattle.words.proofs.Sums.{ofBits-bit}
 use Rattle.words.proofs.Lists.{tabulate-length, tabulate-at, tabulate-lt}
-use Rattle.answer.specs.Answer.{widthAllowed}
-use Rattle.answer.proofs.Laws.{width-cases}
+use Rattle.sizes.specs.Sizes.{widthAllowed}
 use Rattle.tree.specs.Layout.{deltaOf}
 use Rattle.tree.specs.Path.{sideOf}
 use Rattle.tree.specs.Sides.{sidesOf, Sides}
+use Rattle.sizes.proofs.Widths.{width-cases}
 
 -- ---- the bit of delta that a base transfer goes by
 

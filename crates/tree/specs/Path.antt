@@ -5,25 +5,25 @@ use Rattle.words.specs.Bits.{bitOf}
 use Rattle.tree.specs.Tree.{childOf}
 
 -- paper 01, 'Trees and streams': the path of D_i takes its highest bit first. The side it takes at a level, 0 at the root
-abbrev pub pathBit : ℕ → ℕ → ℕ → ℕ
+abbrev pub pathBit : (k d level : ℕ) → ℕ
 pathBit k d level = bitOf d (k - 1 - level)
 
 -- the path's node at a level, and its number in its depth
-unfoldable pub pathNode : ℕ → List ℕ → ℕ → ℕ → List ℕ
+unfoldable pub pathNode : (k : ℕ) (root : List ℕ) (d level : ℕ) → List ℕ
 pathNode k root d zero = root
 pathNode k root d (suc level) = childOf (pathBit k d level) (pathNode k root d level)
 
-unfoldable pub pathNumber : ℕ → ℕ → ℕ → ℕ
+unfoldable pub pathNumber : (k d level : ℕ) → ℕ
 pathNumber k d zero = 0
 pathNumber k d (suc level) = 2 * pathNumber k d level + pathBit k d level
 
 -- the node beside the path (the sibling) that is made at a level, and its number in its depth
-abbrev pub siblingNode : ℕ → List ℕ → ℕ → ℕ → List ℕ
+abbrev pub siblingNode : (k : ℕ) (root : List ℕ) (d level : ℕ) → List ℕ
 siblingNode k root d level = childOf (1 - pathBit k d level) (pathNode k root d level)
 
-abbrev pub siblingNumber : ℕ → ℕ → ℕ → ℕ
+abbrev pub siblingNumber : (k d level : ℕ) → ℕ
 siblingNumber k d level = 2 * pathNumber k d level + (1 - pathBit k d level)
 
 -- the side that the sibling made at a level is on: 1 minus the path bit
-abbrev pub sideOf : ℕ → ℕ → ℕ → ℕ
+abbrev pub sideOf : (k d level : ℕ) → ℕ
 sideOf k d level = 1 - pathBit k d level

@@ -4,7 +4,8 @@ use Prim.Native.Nat.{ℕ, _/_, _%_, _<_}
 use lib.ListN.{getD}
 use Rattle.words.specs.Bytes.{tabulate}
 use Rattle.tree.specs.Path.{sideOf}
-use Rattle.tree.specs.Layout.{columns, deltaOf}
+use Rattle.sizes.specs.Sizes.{columns}
+use Rattle.tree.specs.Layout.{deltaOf}
 
 -- base transfer c stands at level c % k of tree c / k
 abbrev pub sidesOf : ℕ → List ℕ → List ℕ

@@ -18,18 +18,18 @@ childOf side node = part (32 * side) 32 (childrenOf node)
 
 -- the ⊕ of g y m over the nodes m that stand so many levels below a node. y is a node's number in its depth, from the left: the
 -- children of the node numbered y are numbered 2y and 2y + 1
-unfoldable pub sumBelow : ℕ → List ℕ → ℕ → (ℕ → List ℕ → ℕ) → ℕ
+unfoldable pub sumBelow : (levels : ℕ) (node : List ℕ) (number : ℕ) (g : ℕ → List ℕ → ℕ) → ℕ
 sumBelow zero node y g = g y node
 sumBelow (suc levels) node y g = sumBelow levels (childOf 0 node) (2 * y) g ⊕ sumBelow levels (childOf 1 node) (2 * y + 1) g
 
 -- the total of a side at a level, 0 at the node: the ⊕ of all children of that side made there
-unfoldable pub totalOf : List ℕ → ℕ → ℕ → List ℕ
+unfoldable pub totalOf : (node : List ℕ) (level side : ℕ) → List ℕ
 totalOf node level side = tabulate 32 (λ j. sumBelow level node 0 (λ y m. getD (childOf side m) j 0))
 
 -- use 1 with the batch number and counters from 0 gives a leaf's stream: its byte j
-abbrev pub streamByte : ℕ → ℕ → List ℕ → ℕ
+abbrev pub streamByte : (batch j : ℕ) (leaf : List ℕ) → ℕ
 streamByte batch j leaf = getD (blockOf leaf (j / 64) (nonceOf 1 batch)) (j % 64) 0
 
 -- and F(y), cut to len bytes (paper 01's L)
-unfoldable pub streamOf : ℕ → ℕ → List ℕ → List ℕ
+unfoldable pub streamOf : (batch len : ℕ) (leaf : List ℕ) → List ℕ
 streamOf batch len leaf = tabulate len (λ j. streamByte batch j leaf)

@@ -4,13 +4,13 @@ ghost use mathlib.Core.Bool.{true};
 ghost use Prim.Native.Nat.{_+_, _-_, _*_, _^_, _<_};
 ghost use lib.ListN.{length, getD};
 ghost use Rattle.words.specs.Bytes.{tabulate};
-ghost use Rattle.answer.specs.Answer.{widthAllowed};
+ghost use Rattle.sizes.specs.Sizes.{widthAllowed, deltaLength};
 ghost use Rattle.tree.specs.Sides.{sidesOf};
 
 // For each base transfer the side of the sibling: 1 minus the path's bit, which is delta's highest of the tree at
 // level 0. (In memory the compiler doesn't see that a side is a bit: where it sees that, it may turn a mask back into a branch.)
 pub fn all(k: usize, delta: &[u8]) -> [u8; 128]
-    requires { ⌜ (widthAllowed k ≡ true) × (length (now delta) ≡ 16) ⌝ }
+    requires { ⌜ (widthAllowed k ≡ true) × (length (now delta) ≡ deltaLength) ⌝ }
     ensures { λ r. ⌜ r ≡ sidesOf k (now (delta .entry)) ⌝ }
 {
     let mut r = [0u8; 128];

@@ -5,8 +5,7 @@ use Prim.Native.Nat.{ℕ, _-_, _≤_}
 use native.Mathlib.Omega.{arith}
 use lib.Dec.{eqb}
 use borrow.Author.Needs.{needs}
-use Rattle.answer.specs.Answer.{every}
-use Rattle.consistency.specs.Message.{sidesEqual, accepts}
+use Rattle.consistency.specs.Message.{sidesEqual, every, accepts}
 use Rattle.consistency.proofs.Sides.{compared-more}
 use Rattle.consistency.proofs.accepts.Statement.{statement}
 use Rattle.consistency.proofs.accepts.Tie as tie

@@ -6,7 +6,8 @@ use native.Mathlib.Omega.{arith}
 use lib.ListN.{length}
 use borrow.Rule.Slice.PartMut.{putMid, same-len-mid, mid-len}
 use Rattle.words.specs.Bytes.{concat}
-use Rattle.tree.specs.Layout.{treesOf, rootOf}
+use Rattle.sizes.specs.Sizes.{treesOf}
+use Rattle.tree.specs.Layout.{rootOf}
 use Rattle.columns.specs.Columns.{tableOf, uOf, receiverColumn, receiverTable}
 use Rattle.words.proofs.Layouts.{both}
 use Rattle.receiver_columns.proofs.Starts.{u-length, columns-length, whole, front-root, front-trees, later-trees}

@@ -3,7 +3,8 @@ use mathlib.Core.Path.{sym, ap, _∙_}
 use Prim.Native.Nat.{ℕ, suc, _-_, _*_, _≤_}
 use native.Mathlib.Omega.{arith}
 use lib.ListN.{length}
-use Rattle.tree.specs.Layout.{treesOf, rootOf}
+use Rattle.sizes.specs.Sizes.{treesOf}
+use Rattle.tree.specs.Layout.{rootOf}
 use Rattle.columns.specs.Columns.{uOf, correctionOf}
 use Rattle.words.proofs.Lists.{cut-length}
 use Rattle.columns.proofs.Tables.{columns-fit}

@@ -9,8 +9,9 @@ use lib.ListN.{length}
 use borrow.Rule.Slice.PartMut.{mid-len}
 use Rattle.words.specs.Bytes.{concat, part}
 use Rattle.words.proofs.Concat.{concat-same, concat-length, part-length, part-lt, place-part}
-use Rattle.tree.specs.Layout.{columns, treesOf, deltaOf, treePart}
-use Rattle.tree.proofs.Widths.{width-fits, four-fit}
+use Rattle.sizes.specs.Sizes.{columns, treesOf}
+use Rattle.tree.specs.Layout.{deltaOf, treePart}
+use Rattle.sizes.proofs.Widths.{width-fits, four-fit}
 use Rattle.tree.proofs.Sides.{sides-length, sides-lt}
 use Rattle.columns.specs.Columns.{senderColumn, senderTable, tableOf, treeCorrection}
 use Rattle.sender_columns.specs.Lanes.{SidesAre}

@@ -2,7 +2,7 @@
 use mathlib.Core.Path.{sym, ap, _∙_}
 use Prim.Native.Nat.{ℕ, _-_, _*_, _≤_}
 use native.Mathlib.Omega.{arith}
-use Rattle.tree.proofs.Widths.{width-fits}
+use Rattle.sizes.proofs.Widths.{width-fits}
 use Rattle.words.proofs.Lists.{cut-length}
 use Rattle.columns.proofs.Tables.{columns-fit}
 use borrow.Author.Needs.{needs}

@@ -1,93 +1,106 @@
--- `session::sender_correct` meets its contract: the table is made where the answer is Done, and else all is left. Assumes nothing.
-use mathlib.Core.Path.{_≡_, sym, _∙_}
-use mathlib.Core.Bool.{true}
+-- `session::sender_correct` meets its contract: the table is made where the answer is done, and else all is left. Assumes nothing.
+use mathlib.Core.Path.{_≡_, refl, sym, ap, _∙_}
+use mathlib.Core.Bool.{true, false}
 use denote.Ref.{now}
-use Prim.Native.Nat.{_-_, _*_, _≤_}
+use mathlib.Core.List.{List}
+use Prim.Native.Nat.{ℕ, _-_, _*_, _≤_}
 use native.Mathlib.Omega.{arith}
 use lib.ListN.{length}
 use borrow.Author.Needs.{needs}
-use Rattle.answer.specs.declared.Answer.the-variants.{Done}
-use Rattle.answer.specs.Answer.{widthAllowed}
-use Rattle.answer.proofs.Laws.{is-done, not-done}
-use Rattle.tree.specs.Layout.{columns, treesOf, columnLength}
+use Rattle.answer.specs.Answer.{isDone}
+use Rattle.answer.proofs.Order.{new-when, old-when}
+use Rattle.sizes.specs.Sizes.{widthAllowed, columns, treesOf, columnLength, deltaLength, siblingsLength, tableLength, correctionLength}
 use Rattle.columns.specs.Columns.{senderTable}
-use Rattle.session.specs.Steps.{withBatch}
-use Rattle.session.proofs.Order.{all-hold, blocks-fit, correct-fits}
+use Rattle.rules.specs.Orders.{withBatch}
+use Rattle.rules.proofs.Fits.{correct-fits}
 use Rattle.session.proofs.sender_correct.Statement.{statement}
 use Rattle.session.proofs.sender_correct.Tie as tie
 
-correct-answer-requires : tie.Need-correct-answer-requires
-correct-answer-requires c κs = search needs
+sender-correct-requires : tie.Need-sender-correct-requires
+sender-correct-requires c κs = search needs
 
-done : (c : tie.At-match-keys1) → c .before .correct-answer .result ≡ Done
-done c = is-done _ (c .match .keys1)
+is-done-requires : tie.Need-is-done-requires
+is-done-requires c κs = search needs
 
--- what an answer of Done tells
-fits : (c : tie.At-match-keys1)
-    → let s = c .before .before .before .before .before .before in
-    let k = s .args .r .width in
-    let len = columnLength (s .args .blocks) in
-    (widthAllowed k ≡ true) × (s .args .blocks ≤ 15) × (length (now (s .args .siblings)) ≡ 32 * columns) × (length (now (s .args .delta)) ≡ 16)
-    × (length (now (s .args .correction)) ≡ (treesOf k - 1) * len) × (length (now (s .args .table)) ≡ columns * len)
+done : (c : tie.Then1) → isDone (c .before .before .sender-correct .result) ≡ true
+done c = sym (c .before .is-done .ensures) ∙ c .if1 .taken
+
+refused : (c : tie.Else1) → isDone (c .before .before .sender-correct .result) ≡ false
+refused c = sym (c .before .is-done .ensures) ∙ c .if1 .left
+
+-- what an answer of done tells
+fits : (c : tie.Then1)
+    → let a = c .before .before .before .before .before .before .before .args in
+    let k = a .r .width in
+    (widthAllowed k ≡ true) × (a .blocks ≤ 15) × (length (now (a .siblings)) ≡ siblingsLength) × (length (now (a .delta)) ≡ deltaLength)
+    × (length (now (a .correction)) ≡ correctionLength k (a .blocks)) × (length (now (a .table)) ≡ tableLength (a .blocks))
 fits c =
-    let all = all-hold _ _ _ _ _ (sym (c .before .correct-answer .ensures) ∙ done c) in
-    let lengths = correct-fits _ _ _ _ _ _ (all .4) in
-    (all .0, blocks-fit _ (all .3) .1, lengths .0, lengths .1, lengths .2, lengths .3)
+    let a = c .before .before .before .before .before .before .before .args in
+    correct-fits (a .r) (a .batch) (a .blocks) (length (now (a .siblings))) (length (now (a .delta))) (length (now (a .correction))) (length (now (a .table)))
+    (ap isDone (sym (c .before .before .sender-correct .ensures)) ∙ done c)
 
-enum-told : tie.Need-enum-told
-enum-told c = search needs
-
-add-len : tie.Need-add-len
-add-len c = search needs
-
-mul-len : tie.Need-mul-len
-mul-len c = search needs
+column-length-requires : tie.Need-column-length-requires
+column-length-requires c κs = search needs
 
 cast-correct : tie.Need-cast-correct
 cast-correct c = search needs
 
 correct-requires : tie.Need-correct-requires
 correct-requires c κs =
-    let h = fits (c .before .before .before) in
-    (h .0, omega arith, omega (arith, h .1), omega arith, h .2, h .3, h .4, h .5)
+    let t = c .before .before .before in
+    let h = fits t in
+    let k = t .before .before .before .before .before .before .before .args .r .width in
+    let long = c .before .before .column-length .ensures in (
+      h .0,
+      omega (arith, long),
+      omega (arith, long, h .1),
+      omega (arith, long),
+      h .2,
+      h .3,
+      h .4 ∙ ap (λ (n : ℕ). (treesOf k - 1) * n) (sym long),
+      h .5 ∙ ap (λ (n : ℕ). columns * n) (sym long),
+    )
 
-opened-requires : tie.Need-opened-requires
-opened-requires c κs = search needs
+with-batch-requires : tie.Need-with-batch-requires
+with-batch-requires c κs = search needs
 
 same-length : tie.Need-same-length
 same-length c = search needs
 
 returns : tie.Need-returns
 returns c =
-    let m = c .before .before .before .before .before .before .before in
+    let t = c .before .before .before .before .before .before .before in
+    let a = t .before .before .before .before .before .before .before .args in
+    let x = t .before .before .sender-correct in
+    let made : ℕ → List ℕ = λ len. senderTable (a .r .width) (a .batch) len (now (a .siblings)) (now (a .delta)) (now (a .correction)) in
     record {
-      answered = m .before .correct-answer .ensures;
-      recorded = c .opened .ensures ∙ rw (done m);
-      filled = c .before .before .before .correct .ensures ∙ rw (done m);
+      answered = x .ensures;
+      recorded = c .with-batch .ensures ∙ sym (new-when (x .result) (withBatch (a .r) (a .batch) (a .blocks)) (a .r) (done t));
+      filled = c .before .before .before .correct .ensures ∙ ap made (c .before .before .before .before .before .before .column-length .ensures)
+          ∙ sym (new-when (x .result) (made (columnLength (a .blocks))) (now (a .table)) (done t));
     }
 
 returns-2 : tie.Need-returns-2
 returns-2 c =
-    let s = c .before .before .before .before .before .before in
-    let a = c .before .correct-answer .result in
-    let made = senderTable (s .args .r .width) (s .args .batch) (columnLength (s .args .blocks)) (now (s .args .siblings)) (now (s .args .delta)) (now (s .args .correction)) in
+    let a = c .before .before .before .before .before .before .before .args in
+    let x = c .before .before .sender-correct in
+    let made = senderTable (a .r .width) (a .batch) (columnLength (a .blocks)) (now (a .siblings)) (now (a .delta)) (now (a .correction)) in
     record {
-      answered = c .before .correct-answer .ensures;
-      recorded = not-done a (withBatch (s .args .r) (s .args .batch) (s .args .blocks)) (s .args .r) (c .match .keys2);
-      filled = not-done a made (now (s .args .table)) (c .match .keys2);
+      answered = x .ensures;
+      recorded = sym (old-when (x .result) (withBatch (a .r) (a .batch) (a .blocks)) (a .r) (refused c));
+      filled = sym (old-when (x .result) made (now (a .table)) (refused c));
     }
 
 pub sender-correct-spec : {M : Type 1} → statement M
 sender-correct-spec =
     tie.close
     (tie.spec
-    correct-answer-requires
-    enum-told
-    add-len
-    mul-len
+    sender-correct-requires
+    is-done-requires
+    column-length-requires
     cast-correct
     correct-requires
-    opened-requires
+    with-batch-requires
     same-length
     returns
     returns-2)

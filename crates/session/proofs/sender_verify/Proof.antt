@@ -1,61 +1,62 @@
--- `session::sender_verify` meets its contract: pads are written where the check is passed, and a failed check closes the session; else all
--- is left. Assumes nothing.
+-- `session::sender_verify` meets its contract: pads are written where the check is passed, and a failed check closes the session; else
+-- all is left. Assumes nothing.
 use mathlib.Core.Path.{_≡_, refl, sym, ap, _∙_}
+use mathlib.Core.Bool.{Bool, true, false, cond}
 use denote.Ref.{now}
-use Prim.Native.Nat.{_*_, _≤_}
+use mathlib.Core.List.{[], _∷_}
+use Prim.Native.Nat.{ℕ, _*_, _≤_}
+use native.Mathlib.Omega.{arith}
 use lib.ListN.{length}
 use borrow.Author.Needs.{needs}
-use Rattle.answer.specs.declared.Answer.{Answer}
 use Rattle.answer.specs.declared.Answer.the-variants.{Done, Check}
-use Rattle.answer.specs.Answer.{unless, whenDone, whenFailed}
-use Rattle.answer.proofs.Laws.{is-done, not-done}
-use Rattle.tree.specs.Layout.{columns, columnLength}
+use Rattle.answer.specs.Answer.{isDone, Order, whenFailed}
+use Rattle.answer.proofs.Order.{new-when, old-when, AllHold, all-hold, done-when, last-decides, first-refused, not-failed}
+use Rattle.sizes.specs.Sizes.{columns, columnLength, deltaLength, tableLength, checkMessageLength, senderPadsLength}
 use Rattle.consistency.specs.Message.{accepts}
 use Rattle.pads.specs.Pads.{senderPads}
-use Rattle.session.specs.Steps.{endAnswer, verifyLengths, withoutBatch, closed}
-use Rattle.session.proofs.Order.{all-hold, blocks-fit, verify-fits, not-failed, check-decides}
+use Rattle.rules.specs.Orders.{withoutBatch, closed, beforeCheck}
+use Rattle.rules.proofs.Fits.{verify-fits}
 use Rattle.session.proofs.sender_verify.Statement.{statement}
 use Rattle.session.proofs.sender_verify.Tie as tie
 
-verify-answer-requires : tie.Need-verify-answer-requires
-verify-answer-requires c κs = search needs
+sender-verify-requires : tie.Need-sender-verify-requires
+sender-verify-requires c κs = search needs
 
-done : (c : tie.At-match-keys1) → c .before .verify-answer .result ≡ Done
-done c = is-done _ (c .match .keys1)
+is-done-requires : tie.Need-is-done-requires
+is-done-requires c κs = search needs
 
--- nothing is refused before the check
-passed : (c : tie.At-match-keys1)
-    → let a = c .before .before .before .before .before .before .args in
-    endAnswer (a .r) (verifyLengths (a .r .blocks) (length (now (a .table))) (length (now (a .delta))) (length (now (a .message))) (length (now (a .pads)))) ≡ Done
-passed c = sym (c .before .verify-answer .ensures) ∙ done c
+done : (c : tie.Then1) → isDone (c .before .before .sender-verify .result) ≡ true
+done c = sym (c .before .is-done .ensures) ∙ c .if1 .taken
 
--- what that tells
-fits : (c : tie.At-match-keys1)
-    → let a = c .before .before .before .before .before .before .args in
+refused : (c : tie.Else1) → isDone (c .before .before .sender-verify .result) ≡ false
+refused c = sym (c .before .is-done .ensures) ∙ c .if1 .left
+
+-- the conditions before the check
+abbrev asked : tie.Start → Order
+asked s =
+    let a = s .args in
+    beforeCheck (a .r) (length (now (a .table))) (length (now (a .delta))) (length (now (a .message))) (length (now (a .pads)))
+
+-- an answer of done tells that they hold
+holds : (c : tie.Then1) → AllHold (asked (c .before .before .before .before .before .before .before))
+holds c = all-hold (asked (c .before .before .before .before .before .before .before)) refl (ap isDone (sym (c .before .before .sender-verify .ensures)) ∙ done c)
+
+fits : (c : tie.Then1)
+    → let a = c .before .before .before .before .before .before .before .args in
     let blocks = a .r .blocks in
-    (blocks ≤ 15) × (length (now (a .table)) ≡ columns * columnLength blocks) × (length (now (a .delta)) ≡ 16)
-    × (length (now (a .message)) ≡ 1032) × (length (now (a .pads)) ≡ 4096 * blocks)
+    (blocks ≤ 15) × (length (now (a .table)) ≡ tableLength blocks) × (length (now (a .delta)) ≡ deltaLength)
+    × (length (now (a .message)) ≡ checkMessageLength) × (length (now (a .pads)) ≡ senderPadsLength blocks)
 fits c =
-    let all = all-hold _ _ _ _ _ (passed c) in
-    let lengths = verify-fits _ _ _ _ _ (all .4) in
-    (blocks-fit _ (all .3) .1, lengths .0, lengths .1, lengths .2, lengths .3)
+    let a = c .before .before .before .before .before .before .before .args in
+    verify-fits (a .r) (length (now (a .table))) (length (now (a .delta))) (length (now (a .message))) (length (now (a .pads))) (holds c)
 
-enum-told : tie.Need-enum-told
-enum-told c = search needs
-
-cast-len : tie.Need-cast-len
-cast-len c = search needs
-
-add-len : tie.Need-add-len
-add-len c = search needs
-
-mul-len : tie.Need-mul-len
-mul-len c = search needs
+column-length-requires : tie.Need-column-length-requires
+column-length-requires c κs = search needs
 
 accepts-requires : tie.Need-accepts-requires
 accepts-requires c κs =
-    let h = fits (c .before .before) in
-    (h .1, h .2, h .3)
+    let h = fits (c .before) in
+    (h .1 ∙ ap (λ (n : ℕ). columns * n) (sym (c .column-length .ensures)), h .2, h .3)
 
 cast-sender-pads : tie.Need-cast-sender-pads
 cast-sender-pads c = search needs
@@ -65,11 +66,11 @@ cast-sender-pads-2 c = search needs
 
 sender-pads-requires : tie.Need-sender-pads-requires
 sender-pads-requires c κs =
-    let h = fits (c .before .before .before .before .before .before .before) in
+    let h = fits (c .before .before .before .before .before .before) in
     (h .0, h .1, h .2, h .4)
 
-ended-requires : tie.Need-ended-requires
-ended-requires c κs = search needs
+without-batch-requires : tie.Need-without-batch-requires
+without-batch-requires c κs = search needs
 
 closed-requires : tie.Need-closed-requires
 closed-requires c κs = search needs
@@ -77,54 +78,61 @@ closed-requires c κs = search needs
 same-length : tie.Need-same-length
 same-length c = search needs
 
+-- the check
+abbrev decides : tie.Start → ℕ → Bool
+decides s len = accepts len (s .args .key) (now (s .args .table)) (now (s .args .delta)) (now (s .args .message))
+
 returns : tie.Need-returns
 returns c =
-    let m = c .before .before .before .before .before .before .before .before .before .before .before in
-    let accepted = sym (c .before .before .before .before .before .before .before .before .accepts .ensures) ∙ c .before .before .before .before .before .before .before .if1 .taken in
+    let t = c .before .before .before .before .before .before .before .before .before .before in
+    let s = t .before .before .before .before .before .before .before in
+    let a = s .args in
+    let x = t .before .before .sender-verify in
+    let accepted = ap (decides s) (sym (c .before .before .before .before .before .before .before .before .before .column-length .ensures)) ∙ sym (c .before .before .before .before .before .before .before .before .accepts .ensures) ∙ c .before .before .before .before .before .before .before .if2 .taken in
     record {
-      answered = done m ∙ sym (check-decides _ _ _ (passed m) accepted);
-      recorded = c .ended .ensures ∙ rw (done m);
-      padded = c .before .before .before .sender-pads .ensures ∙ rw (done m);
+      answered = x .ensures ∙ done-when (asked s) (holds t)
+          ∙ sym (last-decides (asked s) (decides s (columnLength (a .r .blocks))) Check (holds t) ∙ ap (λ (b : Bool). cond b Done Check) accepted);
+      recorded = c .without-batch .ensures ∙ sym (new-when (x .result) (withoutBatch (a .r)) (whenFailed (x .result) (closed (a .r)) (a .r)) (done t));
+      padded = c .before .before .before .sender-pads .ensures
+          ∙ sym (new-when (x .result) (senderPads (a .r .blocks) (a .r .last) (now (a .table)) (now (a .delta))) (now (a .pads)) (done t));
     }
 
 returns-2 : tie.Need-returns-2
 returns-2 c =
-    let m = c .before .before .before .before .before in
-    let refused = sym (c .before .before .accepts .ensures) ∙ c .before .if1 .left in
+    let t = c .before .before .before .before in
+    let s = t .before .before .before .before .before .before .before in
+    let failed = ap (decides s) (sym (c .before .before .before .column-length .ensures)) ∙ sym (c .before .before .accepts .ensures) ∙ c .before .if2 .left in
     record {
-      answered = sym (check-decides _ _ _ (passed m) refused);
+      answered = sym (last-decides (asked s) (decides s (columnLength (s .args .r .blocks))) Check (holds t) ∙ ap (λ (b : Bool). cond b Done Check) failed);
       recorded = c .closed .ensures;
       padded = refl;
     }
 
 returns-3 : tie.Need-returns-3
 returns-3 c =
-    let a = c .before .before .before .before .before .before .args in
-    let x = c .before .verify-answer in
-    let accepted = accepts (columnLength (a .r .blocks)) (a .key) (now (a .table)) (now (a .delta)) (now (a .message)) in
-    let left = ap (λ (y : Answer). whenFailed y (closed (a .r)) (a .r)) (x .ensures) ∙ not-failed _ _ _ _ _ (closed (a .r)) (a .r) in
+    let s = c .before .before .before .before .before .before .before in
+    let a = s .args in
+    let x = c .before .before .sender-verify in
+    let refusal = ap isDone (sym (x .ensures)) ∙ refused c in
+    let kept = not-failed (asked s) (x .result) (closed (a .r)) (a .r) refl (x .ensures) in
     record {
-      answered =
-          not-done (x .result) (unless accepted Check Done) (x .result) (c .match .keys2)
-          ∙ ap (λ (y : Answer). whenDone y (unless accepted Check Done) y) (x .ensures);
-      recorded = sym left ∙ not-done (x .result) (withoutBatch (a .r)) (whenFailed (x .result) (closed (a .r)) (a .r)) (c .match .keys2);
-      padded = not-done (x .result) (senderPads (a .r .blocks) (a .r .last) (now (a .table)) (now (a .delta))) (now (a .pads)) (c .match .keys2);
+      answered = x .ensures ∙ sym (first-refused (asked s) ((decides s (columnLength (a .r .blocks)), Check) ∷ []) refusal);
+      recorded = sym (old-when (x .result) (withoutBatch (a .r)) (whenFailed (x .result) (closed (a .r)) (a .r)) (refused c) ∙ kept);
+      padded = sym (old-when (x .result) (senderPads (a .r .blocks) (a .r .last) (now (a .table)) (now (a .delta))) (now (a .pads)) (refused c));
     }
 
 pub sender-verify-spec : {M : Type 1} → statement M
 sender-verify-spec =
     tie.close
     (tie.spec
-    verify-answer-requires
-    enum-told
-    cast-len
-    add-len
-    mul-len
+    sender-verify-requires
+    is-done-requires
+    column-length-requires
     accepts-requires
     cast-sender-pads
     cast-sender-pads-2
     sender-pads-requires
-    ended-requires
+    without-batch-requires
     closed-requires
     same-length
     returns

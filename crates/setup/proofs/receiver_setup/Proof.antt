@@ -1,49 +1,56 @@
--- `setup::receiver_setup` meets its contract: the message is written where the answer is Done, and else left. Assumes nothing.
-use mathlib.Core.Path.{_≡_, sym, _∙_}
+-- `setup::receiver_setup` meets its contract: the message is written where the answer is done, and else left. Assumes nothing.
+use mathlib.Core.Path.{_≡_, sym, ap, _∙_}
+use mathlib.Core.Bool.{true}
 use denote.Ref.{now}
-use Rattle.answer.specs.declared.Answer.the-variants.{Done}
-use Rattle.answer.proofs.Laws.{is-done, not-done}
-use Rattle.setup.specs.Setup.{messageOf}
 use borrow.Author.Needs.{needs}
+use Rattle.answer.specs.Answer.{isDone}
+use Rattle.answer.proofs.Order.{new-when, old-when}
+use Rattle.setup.specs.Setup.{messageOf}
 use Rattle.setup.proofs.Answers.{receiver-fits}
 use Rattle.setup.proofs.receiver_setup.Statement.{statement}
 use Rattle.setup.proofs.receiver_setup.Tie as tie
 
-setup-answer-requires : tie.Need-setup-answer-requires
-setup-answer-requires c κs = search needs
+receiver-setup-requires : tie.Need-receiver-setup-requires
+receiver-setup-requires c κs = search needs
 
-enum-told : tie.Need-enum-told
-enum-told c = search needs
+is-done-requires : tie.Need-is-done-requires
+is-done-requires c κs = search needs
 
-done : (c : tie.At-match-keys1) → c .before .setup-answer .result ≡ Done
-done c = is-done _ (c .match .keys1)
+done : (c : tie.Then1) → isDone (c .before .before .receiver-setup .result) ≡ true
+done c = sym (c .before .is-done .ensures) ∙ c .if1 .taken
 
 write-message-requires : tie.Need-write-message-requires
-write-message-requires c κs = receiver-fits _ _ _ _ (sym (c .before .before .before .setup-answer .ensures) ∙ done (c .before .before))
+write-message-requires c κs =
+    let t = c .before in
+    receiver-fits _ _ _ _ (ap isDone (sym (t .before .before .receiver-setup .ensures)) ∙ done t)
 
 same-length : tie.Need-same-length
 same-length c = search needs
 
 returns : tie.Need-returns
 returns c =
-    let b = c .before .before .before .before .before in
-    record { answered = b .before .setup-answer .ensures; written = c .before .before .write-message .ensures ∙ rw (done b) }
+    let t = c .before .before .before .before in
+    record {
+      answered = t .before .before .receiver-setup .ensures;
+      written = c .before .before .write-message .ensures ∙ sym (new-when (t .before .before .receiver-setup .result) _ _ (done t));
+    }
 
 returns-2 : tie.Need-returns-2
 returns-2 c =
-    let a = c .before .before .before .before .before .args in
-    let message = messageOf (a .width) (now (a .roots)) (now (a .base-pads)) in
+    let a = c .before .before .before .before .before .before .args in
+    let x = c .before .before .receiver-setup in
+    let made = messageOf (a .width) (now (a .roots)) (now (a .base-pads)) in
     record {
-      answered = c .before .setup-answer .ensures;
-      written = not-done (c .before .setup-answer .result) message (now (a .message)) (c .match .keys2);
+      answered = x .ensures;
+      written = sym (old-when (x .result) made (now (a .message)) (sym (c .before .is-done .ensures) ∙ c .if1 .left));
     }
 
 pub receiver-setup-spec : {M : Type 1} → statement M
 receiver-setup-spec =
     tie.close
     (tie.spec
-    setup-answer-requires
-    enum-told
+    receiver-setup-requires
+    is-done-requires
     write-message-requires
     same-length
     returns

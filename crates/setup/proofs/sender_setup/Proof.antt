@@ -1,47 +1,56 @@
--- `setup::sender_setup` meets its contract: the siblings are written where the answer is Done, and else left. Assumes nothing.
-use mathlib.Core.Path.{_≡_, sym, _∙_}
+-- `setup::sender_setup` meets its contract: the siblings are written where the answer is done, and else left. Assumes nothing.
+use mathlib.Core.Path.{_≡_, sym, ap, _∙_}
+use mathlib.Core.Bool.{true}
 use denote.Ref.{now}
-use Rattle.answer.specs.declared.Answer.the-variants.{Done}
-use Rattle.answer.proofs.Laws.{is-done, not-done}
-use Rattle.setup.specs.Setup.{siblingsOf}
 use borrow.Author.Needs.{needs}
+use Rattle.answer.specs.Answer.{isDone}
+use Rattle.answer.proofs.Order.{new-when, old-when}
+use Rattle.setup.specs.Setup.{siblingsOf}
 use Rattle.setup.proofs.Answers.{sender-fits}
 use Rattle.setup.proofs.sender_setup.Statement.{statement}
 use Rattle.setup.proofs.sender_setup.Tie as tie
 
-setup-answer-requires : tie.Need-setup-answer-requires
-setup-answer-requires c κs = search needs
+sender-setup-requires : tie.Need-sender-setup-requires
+sender-setup-requires c κs = search needs
 
-enum-told : tie.Need-enum-told
-enum-told c = search needs
+is-done-requires : tie.Need-is-done-requires
+is-done-requires c κs = search needs
 
-done : (c : tie.At-match-keys1) → c .before .setup-answer .result ≡ Done
-done c = is-done _ (c .match .keys1)
+done : (c : tie.Then1) → isDone (c .before .before .sender-setup .result) ≡ true
+done c = sym (c .before .is-done .ensures) ∙ c .if1 .taken
 
 find-siblings-requires : tie.Need-find-siblings-requires
-find-siblings-requires c κs = sender-fits _ _ _ _ _ (sym (c .before .before .before .setup-answer .ensures) ∙ done (c .before .before))
+find-siblings-requires c κs =
+    let t = c .before in
+    sender-fits _ _ _ _ _ (ap isDone (sym (t .before .before .sender-setup .ensures)) ∙ done t)
 
 same-length : tie.Need-same-length
 same-length c = search needs
 
 returns : tie.Need-returns
-returns c = let b = c .before .before .before .before .before in
-    record { answered = b .before .setup-answer .ensures; written = c .before .before .find-siblings .ensures ∙ rw (done b) }
+returns c =
+    let t = c .before .before .before .before in
+    record {
+      answered = t .before .before .sender-setup .ensures;
+      written = c .before .before .find-siblings .ensures ∙ sym (new-when (t .before .before .sender-setup .result) _ _ (done t));
+    }
 
 returns-2 : tie.Need-returns-2
-returns-2 c = let a = c .before .before .before .before .before .before .args in
-    let siblings = siblingsOf (a .width) (now (a .delta)) (now (a .base-pads)) (now (a .message)) in
+returns-2 c =
+    let a = c .before .before .before .before .before .before .before .args in
+    let x = c .before .before .sender-setup in
+    let made = siblingsOf (a .width) (now (a .delta)) (now (a .base-pads)) (now (a .message)) in
     record {
-      answered = c .before .setup-answer .ensures;
-      written = not-done (c .before .setup-answer .result) siblings (now (a .siblings)) (c .match .keys2);
+      answered = x .ensures;
+      written = sym (old-when (x .result) made (now (a .siblings)) (sym (c .before .is-done .ensures) ∙ c .if1 .left));
     }
 
 pub sender-setup-spec : {M : Type 1} → statement M
 sender-setup-spec =
     tie.close
     (tie.spec
-    setup-answer-requires
-    enum-told
+    sender-setup-requires
+    is-done-requires
     find-siblings-requires
     same-length
     returns

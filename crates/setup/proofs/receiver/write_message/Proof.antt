@@ -5,10 +5,11 @@ use Prim.Native.Nat.{ℕ, _+_, _-_, _*_, _%_, _≤_}
 use native.Mathlib.Omega.{arith}
 use borrow.Rule.Slice.PartMut.{mid-len}
 use Rattle.words.proofs.Layouts.{Laid, laid-none, laid-more, laid-all}
-use Rattle.tree.specs.Layout.{treesOf, rootOf, treePart}
+use Rattle.sizes.specs.Sizes.{treesOf}
+use Rattle.tree.specs.Layout.{rootOf, treePart}
 use Rattle.setup.specs.Setup.{treeMessage, messageOf}
 use Rattle.setup.proofs.Honest.{message-length}
-use Rattle.tree.proofs.Widths.{width-fits, four-fit}
+use Rattle.sizes.proofs.Widths.{width-fits, four-fit}
 use Rattle.setup.proofs.Message.{four-from}
 use Rattle.setup.proofs.receiver.write_message.Statement.{statement}
 use Rattle.setup.proofs.receiver.write_message.Tie as tie

@@ -7,9 +7,10 @@ use lib.ListN.{getD, drop}
 use borrow.Rule.Slice.PartMut.{mid-len}
 use Rattle.words.proofs.Concat.{concat-length, part-lt, rest-kept}
 use Rattle.words.proofs.Layouts.{Laid, laid-none, laid-more, laid-all}
-use Rattle.tree.specs.Layout.{treesOf, treePart}
+use Rattle.sizes.specs.Sizes.{treesOf}
+use Rattle.tree.specs.Layout.{treePart}
 use Rattle.setup.specs.Setup.{nodesFound}
-use Rattle.tree.proofs.Widths.{width-fits, four-fit}
+use Rattle.sizes.proofs.Widths.{width-fits, four-fit}
 use Rattle.setup.proofs.Levels.{found-length, four-found}
 use Rattle.setup.proofs.sender.all_trees.Statement.{statement}
 use Rattle.setup.proofs.sender.all_trees.Tie as tie

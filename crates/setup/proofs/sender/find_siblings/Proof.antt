@@ -5,9 +5,9 @@ use Prim.Native.Nat.{ℕ, _-_}
 use native.Mathlib.Omega.{arith}
 use lib.ListN.{length, getD}
 use borrow.Author.Needs.{needs}
-use Rattle.tree.specs.Layout.{columns, treesOf}
+use Rattle.sizes.specs.Sizes.{columns, treesOf}
 use Rattle.setup.specs.Setup.{unmasked}
-use Rattle.tree.proofs.Widths.{width-fits}
+use Rattle.sizes.proofs.Widths.{width-fits}
 use Rattle.tree.specs.Sides.{Sides}
 use Rattle.setup.specs.Found.{foundIn}
 use Rattle.tree.proofs.Sides.{sides-length, sides-lt}

@@ -1,0 +1,1 @@
+-- No other crate cites a law of this one.

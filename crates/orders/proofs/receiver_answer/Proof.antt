@@ -1,0 +1,59 @@
+-- `orders::receiver_answer` meets its contract: the lengths come after the other conditions. Assumes nothing.
+use mathlib.Core.Path.{_≡_, refl, _∙_}
+use mathlib.Core.List.{[], _∷_}
+use Rattle.answer.specs.Answer.{Order, firstOf}
+use Rattle.answer.proofs.Order.{chain, chain-onward}
+use Rattle.sizes.specs.Sizes.{columnLength, tableLength, checkMessageLength, receiverPadsLength}
+use Rattle.rules.specs.Orders.{has, mayEnd}
+use borrow.Author.Needs.{needs}
+use Rattle.orders.proofs.receiver_answer.Statement.{statement}
+use Rattle.orders.proofs.receiver_answer.Tie as tie
+
+may-end-requires : tie.Need-may-end-requires
+may-end-requires c κs = search needs
+
+column-length-requires : tie.Need-column-length-requires
+column-length-requires c κs = search needs
+
+has-requires : tie.Need-has-requires
+has-requires c κs = search needs
+
+table-length-requires : tie.Need-table-length-requires
+table-length-requires c κs = search needs
+
+has-requires-2 : tie.Need-has-requires-2
+has-requires-2 c κs = search needs
+
+has-requires-3 : tie.Need-has-requires-3
+has-requires-3 c κs = search needs
+
+receiver-pads-length-requires : tie.Need-receiver-pads-length-requires
+receiver-pads-length-requires c κs = search needs
+
+has-requires-4 : tie.Need-has-requires-4
+has-requires-4 c κs = search needs
+
+returns : tie.Need-returns
+returns c =
+    let a = c .before .before .before .before .before .before .before .before .args in
+    let rest : Order = has (a .choices) (columnLength (a .r .blocks))
+    ∷ has (a .table) (tableLength (a .r .blocks))
+    ∷ has (a .message) checkMessageLength
+    ∷ has (a .pads) (receiverPadsLength (a .r .blocks))
+    ∷ [] in
+    let steps : c .has4 .result ≡ chain (firstOf (mayEnd (a .r))) rest = cc in
+    steps ∙ chain-onward (mayEnd (a .r)) rest refl refl
+
+pub receiver-answer-spec : {M : Type 1} → statement M
+receiver-answer-spec =
+    tie.close
+    (tie.spec
+    may-end-requires
+    column-length-requires
+    has-requires
+    table-length-requires
+    has-requires-2
+    has-requires-3
+    receiver-pads-length-requires
+    has-requires-4
+    returns)

@@ -1,0 +1,132 @@
+-- The record of a session, and in which order each step refuses. Paper 01, 'Steps and their turning away'. Assumes nothing.
+use mathlib.Core.Bool.{Bool, _&&_}
+use mathlib.Core.List.{List, [], _∷_, _++_}
+use Prim.Native.Nat.{ℕ}
+use lib.Dec.{eqb, leb, ltb}
+use Rattle.sizes.specs.Sizes.{widthAllowed, columnLength, deltaLength, rootsLength, receiverBasePadsLength, senderBasePadsLength, setupMessageLength, siblingsLength, tableLength, correctionLength, checkMessageLength, receiverPadsLength, senderPadsLength}
+use Rattle.answer.specs.declared.Answer.{Answer}
+use Rattle.answer.specs.declared.Answer.the-variants.{Width, Stage, Batch, Blocks, Length, Check}
+use Rattle.answer.specs.Answer.{Order}
+use Rattle.rules.specs.declared.Record.{Record}
+
+-- ---- records
+
+-- 'Words and layouts': stage 0 ready, 1 open, 2 closed
+abbrev pub stageReady : ℕ
+stageReady = 0
+
+abbrev pub stageOpen : ℕ
+stageOpen = 1
+
+abbrev pub stageClosed : ℕ
+stageClosed = 2
+
+-- opening: a ready record of the named width, last 0, blocks 0
+abbrev pub newRecord : (width : ℕ) → Record
+newRecord width = record { width = width; last = 0; blocks = 0; stage = stageReady }
+
+-- a batch is opened: done sets last, blocks and stage 1
+abbrev pub withBatch : (r : Record) (batch blocks : ℕ) → Record
+withBatch r batch blocks = record { width = r .width; last = batch; blocks = blocks; stage = stageOpen }
+
+-- and ended: done sets ready, blocks 0
+abbrev pub withoutBatch : (r : Record) → Record
+withoutBatch r = record { width = r .width; last = r .last; blocks = 0; stage = stageReady }
+
+-- 6 sets stage closed
+abbrev pub closed : (r : Record) → Record
+closed r = record { width = r .width; last = r .last; blocks = r .blocks; stage = stageClosed }
+
+-- ---- conditions
+
+-- a batch has 1 to 15 blocks
+abbrev pub blocksAllowed : (blocks : ℕ) → Bool
+blocksAllowed blocks = leb 1 blocks && leb blocks 15
+
+-- 3 if the number is 0 or not above the last
+abbrev pub batchFollows : (last batch : ℕ) → Bool
+batchFollows last batch = ltb 0 batch && ltb last batch
+
+-- 5 if a range has any length but the one named
+abbrev pub has : (found named : ℕ) → Bool × Answer
+has found named = (eqb found named, Length)
+
+-- ---- the setups, and opening: 1, then 5
+
+abbrev pub receiverSetupOrder : (width roots pads message : ℕ) → Order
+receiverSetupOrder width roots pads message =
+    (widthAllowed width, Width)
+    ∷ has roots (rootsLength width)
+    ∷ has pads receiverBasePadsLength
+    ∷ has message setupMessageLength ∷ []
+
+abbrev pub senderSetupOrder : (width delta pads message siblings : ℕ) → Order
+senderSetupOrder width delta pads message siblings =
+    (widthAllowed width, Width)
+    ∷ has delta deltaLength
+    ∷ has pads senderBasePadsLength
+    ∷ has message setupMessageLength
+    ∷ has siblings siblingsLength ∷ []
+
+abbrev pub openOrder : (width : ℕ) → Order
+openOrder width = (widthAllowed width, Width) ∷ []
+
+-- ---- the two that open a batch
+
+-- 1; 2 unless ready; 3 if the number is 0 or not above the last; 4
+abbrev pub mayOpen : (r : Record) (batch blocks : ℕ) → Order
+mayOpen r batch blocks =
+    (widthAllowed (r .width), Width)
+    ∷ (eqb (r .stage) stageReady, Stage)
+    ∷ (batchFollows (r .last) batch, Batch)
+    ∷ (blocksAllowed blocks, Blocks) ∷ []
+
+-- chooser start: roots, batch and P; u_0 out L, V out 128 × L, correction out (n-1) × L
+abbrev pub startOrder : (r : Record) (batch blocks roots choices table correction : ℕ) → Order
+startOrder r batch blocks roots choices table correction =
+    mayOpen r batch blocks
+    ++ (has roots (rootsLength (r .width))
+    ∷ has choices (columnLength blocks)
+    ∷ has table (tableLength blocks)
+    ∷ has correction (correctionLength (r .width) blocks) ∷ [])
+
+-- keeper correction: kept table, D, batch and P, correction; W out. Same checks
+abbrev pub correctOrder : (r : Record) (batch blocks siblings delta correction table : ℕ) → Order
+correctOrder r batch blocks siblings delta correction table =
+    mayOpen r batch blocks
+    ++ (has siblings siblingsLength
+    ∷ has delta deltaLength
+    ∷ has correction (correctionLength (r .width) blocks)
+    ∷ has table (tableLength blocks) ∷ [])
+
+-- ---- the two that end it
+
+-- 1; 2 unless open; 3 if last is 0; 4
+abbrev pub mayEnd : (r : Record) → Order
+mayEnd r =
+    (widthAllowed (r .width), Width)
+    ∷ (eqb (r .stage) stageOpen, Stage)
+    ∷ (ltb 0 (r .last), Batch)
+    ∷ (blocksAllowed (r .blocks), Blocks) ∷ []
+
+-- chooser answer: key, u_0, V; check message out 1,032, pads out 2,048 × P
+abbrev pub answerOrder : (r : Record) (choices table message pads : ℕ) → Order
+answerOrder r choices table message pads =
+    mayEnd r
+    ++ (has choices (columnLength (r .blocks))
+    ∷ has table (tableLength (r .blocks))
+    ∷ has message checkMessageLength
+    ∷ has pads (receiverPadsLength (r .blocks)) ∷ [])
+
+-- keeper verdict: key, W, D, check message; pads out 4,096 × P. 1, 2, 3, 4, 5 as in the answer
+abbrev pub beforeCheck : (r : Record) (table delta message pads : ℕ) → Order
+beforeCheck r table delta message pads =
+    mayEnd r
+    ++ (has table (tableLength (r .blocks))
+    ∷ has delta deltaLength
+    ∷ has message checkMessageLength
+    ∷ has pads (senderPadsLength (r .blocks)) ∷ [])
+
+-- then 6
+abbrev pub verifyOrder : (r : Record) (table delta message pads : ℕ) (accepted : Bool) → Order
+verifyOrder r table delta message pads accepted = beforeCheck r table delta message pads ++ ((accepted, Check) ∷ [])

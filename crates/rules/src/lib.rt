@@ -1,0 +1,88 @@
+// The rules of a session, in numbers only: its record, how a step changes it, and which batch numbers and blocks are allowed. The order in
+// which each step refuses is a definition here; the crate `orders` gives the answers.
+ghost use mathlib.Core.Path.{_≡_};
+ghost use Rattle.rules.specs.Orders.{newRecord, withBatch, withoutBatch, closed, blocksAllowed, batchFollows};
+
+// The record of a session: its width, the last batch number (0 for none), the blocks of the open batch, and the stage (0 ready, 1 open,
+// 2 closed). It may hold any numbers.
+#[repr(C)]
+pub struct Record {
+    pub width: u32,
+    pub last: u32,
+    pub blocks: u32,
+    pub stage: u32,
+}
+
+pub const READY: u32 = 0;
+
+pub const OPEN: u32 = 1;
+
+const CLOSED: u32 = 2;
+
+// The record of a session that is opened.
+pub fn new_record(width: u32) -> Record
+    ensures { λ x. ⌜ x ≡ newRecord width ⌝ }
+{
+    Record {
+        width,
+        last: 0,
+        blocks: 0,
+        stage: READY,
+    }
+}
+
+// The record of a batch that is opened.
+pub fn with_batch(r: Record, batch: u32, blocks: u32) -> Record
+    ensures { λ x. ⌜ x ≡ withBatch r batch blocks ⌝ }
+{
+    Record {
+        width: r.width,
+        last: batch,
+        blocks,
+        stage: OPEN,
+    }
+}
+
+// And of one that is ended.
+pub fn without_batch(r: Record) -> Record
+    ensures { λ x. ⌜ x ≡ withoutBatch r ⌝ }
+{
+    Record {
+        width: r.width,
+        last: r.last,
+        blocks: 0,
+        stage: READY,
+    }
+}
+
+// And of a session whose check failed.
+pub fn closed(r: Record) -> Record
+    ensures { λ x. ⌜ x ≡ closed r ⌝ }
+{
+    Record {
+        width: r.width,
+        last: r.last,
+        blocks: r.blocks,
+        stage: CLOSED,
+    }
+}
+
+// Whether a batch may have so many blocks.
+pub fn blocks_allowed(blocks: u32) -> bool
+    ensures { λ r. ⌜ r ≡ blocksAllowed blocks ⌝ }
+{
+    if blocks < 1 {
+        return false;
+    }
+    blocks <= 15
+}
+
+// Whether a batch number may follow the last.
+pub fn batch_follows(last: u32, batch: u32) -> bool
+    ensures { λ r. ⌜ r ≡ batchFollows last batch ⌝ }
+{
+    if batch == 0 {
+        return false;
+    }
+    last < batch
+}
