@@ -1,4 +1,4 @@
--- An honest batch, of any width: each of the sender's columns is the receiver's, with the choices added where delta has its bit.
+-- An honest batch, of any number of trees of any width, by any stream: each of the sender's columns is the receiver's, with the choices added where delta has its bit.
 -- Assumes nothing.
 use mathlib.Core.Path.{_≡_, sym, ap, ap₂, _∙_}
 use mathlib.Core.List.{List}
@@ -14,10 +14,9 @@ use Rattle.words.proofs.Xor.{bit-lt, xor-assoc, xor-cancel, scale-xor}
 use Rattle.words.proofs.Sums.{sumTo-same, ofBits-lt, ofBits-bit}
 use Rattle.words.proofs.Lists.{tabulate-at, xorEach-at, xorEach-is, scale-at}
 use Rattle.words.proofs.Concat.{concat-length, concat-part}
-use Rattle.tree.specs.Tree.{sumBelow, streamByte}
+use Rattle.tree.specs.Tree.{sumBelow}
 use Rattle.tree.specs.Path.{siblingNode, siblingNumber}
 use Rattle.tree.specs.Columns.{uAt, receiverAt}
-use Rattle.sizes.specs.Sizes.{columns, treesOf}
 use Rattle.tree.specs.Layout.{rootOf, deltaOf, treePart, columnOf}
 use Rattle.tree.proofs.Path.{sibling-length}
 use Rattle.tree.proofs.Columns.{sender-beside, column-identity}
@@ -43,69 +42,64 @@ beside-honest k root d f b h =
     below : List ℕ → ℕ → ℕ
     below m l = sumBelow (k - 1 - l) m (siblingNumber k d l) (λ y leaf. bitOf (bitXor y d) b * f y leaf)
 
--- u_i ⊕ correction i is u_0, at each byte
-corrected : (k batch len : ℕ) (roots : List ℕ) (i x : ℕ) → i < treesOf k → x < len
-    → bitXor (uAt k (rootOf roots i) (λ y leaf. streamByte batch x leaf)) (getD (treeCorrection len (correctionOf k batch len roots) i) x 0)
-    ≡ getD (choicesOf k batch len roots) x 0
-unfolding uOf treeCorrection
-corrected k batch len roots zero x h hx =
-    xor-zero-r (uAt k (rootOf roots 0) (λ y leaf. streamByte batch x leaf))
-    ∙ sym (tabulate-at len (λ x. uAt k (rootOf roots 0) (λ y leaf. streamByte batch x leaf)) x hx)
-corrected k batch len roots (suc i) x h hx =
-    let own : List ℕ = uOf k batch len (rootOf roots (suc i)) in
-    let choices : List ℕ = choicesOf k batch len roots in
-    ap₂ bitXor
-    (sym (tabulate-at len (λ x. uAt k (rootOf roots (suc i)) (λ y leaf. streamByte batch x leaf)) x hx))
-    (ap (λ (c : List ℕ). getD c x 0) (correction-part k batch len roots i h)
-    ∙ xorEach-at own (λ j. getD choices j 0) x (omega (arith, uOf-length k batch len (rootOf roots (suc i)))))
-    ∙ xor-cancel (getD own x 0) (getD choices x 0)
-
--- the siblings of an honest setup and the honest correction: the sender's column is the receiver's ⊕ d's bit times the choices
-pub sender-column : (k batch len : ℕ) (roots : List ℕ) (d i b : ℕ) → d < 2 ^ k → i < treesOf k
-    → senderColumn k batch len (concat k (siblingNode k (rootOf roots i) d)) d (treeCorrection len (correctionOf k batch len roots) i) b
-    ≡ xorList (receiverColumn k batch len (rootOf roots i) b) (scale (bitOf d b) (choicesOf k batch len roots))
+-- so, where u ⊕ the tree's correction is some column, the sender's column is the receiver's ⊕ d's bit times that column
+pub sender-column : (k : ℕ) (stream : ℕ → List ℕ → ℕ) (len : ℕ) (root : List ℕ) (d : ℕ) (correction column : List ℕ) (b : ℕ) → d < 2 ^ k
+    → ((x : ℕ) → x < len → bitXor (uAt k root (λ y leaf. stream x leaf)) (getD correction x 0) ≡ getD column x 0)
+    → senderColumn k stream len (concat k (siblingNode k root d)) d correction b
+    ≡ xorList (receiverColumn k stream len root b) (scale (bitOf d b) column)
 unfolding senderColumn receiverColumn
-sender-column k batch len roots d i b h hi =
-    xorEach-is (receiverColumn k batch len root b) (senderColumn k batch len siblings d correction b)
-    (λ x. getD (scale (bitOf d b) (choicesOf k batch len roots)) x 0)
-    (senderColumn-length k batch len siblings d correction b ∙ sym (receiverColumn-length k batch len root b))
-    (λ x lt. at x (omega (arith, receiverColumn-length k batch len root b)))
+sender-column k stream len root d correction column b h meets =
+    xorEach-is (receiverColumn k stream len root b) (senderColumn k stream len siblings d correction b)
+    (λ x. getD (scale (bitOf d b) column) x 0)
+    (senderColumn-length k stream len siblings d correction b ∙ sym (receiverColumn-length k stream len root b))
+    (λ x lt. at x (omega (arith, receiverColumn-length k stream len root b)))
   where
-    root : List ℕ
-    root = rootOf roots i
-
     siblings : List ℕ
     siblings = concat k (siblingNode k root d)
 
-    correction : List ℕ
-    correction = treeCorrection len (correctionOf k batch len roots) i
-
     at : (x : ℕ) → x < len
-        → getD (senderColumn k batch len siblings d correction b) x 0
-        ≡ bitXor (getD (receiverColumn k batch len root b) x 0) (getD (scale (bitOf d b) (choicesOf k batch len roots)) x 0)
+        → getD (senderColumn k stream len siblings d correction b) x 0
+        ≡ bitXor (getD (receiverColumn k stream len root b) x 0) (getD (scale (bitOf d b) column) x 0)
     at x lt =
         let p : ℕ = bitOf d b in
-        let received : ℕ = receiverAt k root (λ y leaf. streamByte batch x leaf) b in
-        let u : ℕ = uAt k root (λ y leaf. streamByte batch x leaf) in
+        let received : ℕ = receiverAt k root (λ y leaf. stream x leaf) b in
+        let u : ℕ = uAt k root (λ y leaf. stream x leaf) in
         let c : ℕ = getD correction x 0 in
         tabulate-at len _ x lt
-        ∙ ap (λ (z : ℕ). bitXor z (p * c)) (beside-honest k root d (λ y leaf. streamByte batch x leaf) b h)
+        ∙ ap (λ (z : ℕ). bitXor z (p * c)) (beside-honest k root d (λ y leaf. stream x leaf) b h)
         ∙ xor-assoc received (p * u) (p * c)
         ∙ ap (bitXor received)
         (sym (scale-xor p u c (bit-lt d b))
-        ∙ ap (λ (z : ℕ). p * z) (corrected k batch len roots i x hi lt)
-        ∙ sym (scale-at p (choicesOf k batch len roots) x))
-        ∙ ap (λ (z : ℕ). bitXor z (getD (scale p (choicesOf k batch len roots)) x 0))
-        (sym (tabulate-at len (λ x. receiverAt k root (λ y leaf. streamByte batch x leaf) b) x lt))
+        ∙ ap (λ (z : ℕ). p * z) (meets x lt)
+        ∙ sym (scale-at p column x))
+        ∙ ap (λ (z : ℕ). bitXor z (getD (scale p column) x 0))
+        (sym (tabulate-at len (λ x. receiverAt k root (λ y leaf. stream x leaf) b) x lt))
+
+-- the honest correction: u_i ⊕ correction i is u_0, at each byte
+pub corrected : (n k : ℕ) (stream : ℕ → List ℕ → ℕ) (len : ℕ) (roots : List ℕ) (i x : ℕ) → i < n → x < len
+    → bitXor (uAt k (rootOf roots i) (λ y leaf. stream x leaf)) (getD (treeCorrection len (correctionOf n k stream len roots) i) x 0)
+    ≡ getD (choicesOf k stream len roots) x 0
+unfolding uOf treeCorrection
+corrected n k stream len roots zero x h hx =
+    xor-zero-r (uAt k (rootOf roots 0) (λ y leaf. stream x leaf))
+    ∙ sym (tabulate-at len (λ x. uAt k (rootOf roots 0) (λ y leaf. stream x leaf)) x hx)
+corrected n k stream len roots (suc i) x h hx =
+    let own : List ℕ = uOf k stream len (rootOf roots (suc i)) in
+    let choices : List ℕ = choicesOf k stream len roots in
+    ap₂ bitXor
+    (sym (tabulate-at len (λ x. uAt k (rootOf roots (suc i)) (λ y leaf. stream x leaf)) x hx))
+    (ap (λ (c : List ℕ). getD c x 0) (correction-part n k stream len roots i h)
+    ∙ xorEach-at own (λ j. getD choices j 0) x (omega (arith, uOf-length k stream len (rootOf roots (suc i)))))
+    ∙ xor-cancel (getD own x 0) (getD choices x 0)
 
 -- ---- all trees
 
--- the nodes beside the paths of tree i, of those of all trees
-pub beside-part : (k : ℕ) (delta roots : List ℕ) (i : ℕ) → i < treesOf k
-    → treePart k 32 i (concat (treesOf k) (λ i. concat k (siblingNode k (rootOf roots i) (deltaOf k delta i))))
+-- the nodes beside the paths of tree i, of those of n trees
+pub beside-part : (n k : ℕ) (delta roots : List ℕ) (i : ℕ) → i < n
+    → treePart k 32 i (concat n (λ i. concat k (siblingNode k (rootOf roots i) (deltaOf k delta i))))
     ≡ concat k (siblingNode k (rootOf roots i) (deltaOf k delta i))
-beside-part k delta roots =
-    concat-part (λ i. concat k (siblingNode k (rootOf roots i) (deltaOf k delta i))) (32 * k) (treesOf k)
+beside-part n k delta roots =
+    concat-part (λ i. concat k (siblingNode k (rootOf roots i) (deltaOf k delta i))) (32 * k) n
     (λ i h.
     concat-length (siblingNode k (rootOf roots i) (deltaOf k delta i)) 32 k (λ l h. sibling-length k (rootOf roots i) (deltaOf k delta i) l)
     ∙ mul-comm k 32)
@@ -118,28 +112,31 @@ pub delta-bit : (k : ℕ) (delta : List ℕ) (c : ℕ) → c % k < k → bitOf (
 delta-bit k delta c h =
     ofBits-bit k (λ b. bitAt delta (c / k * k + b)) (λ b. bit-lt _ _) (c % k) h ∙ ap (bitAt delta) (div-add-mod' c k)
 
--- with the siblings of an honest setup
-pub honest-column : (k batch len : ℕ) (siblings delta roots : List ℕ) → 0 < k → treesOf k * k ≡ columns
-    → ((i : ℕ) → i < treesOf k → treePart k 32 i siblings ≡ concat k (siblingNode k (rootOf roots i) (deltaOf k delta i)))
-    → (c : ℕ) → c < columns
-    → columnOf len (senderTable k batch len siblings delta (correctionOf k batch len roots)) c
-    ≡ xorList (columnOf len (receiverTable k batch len roots) c) (scale (bitAt delta c) (choicesOf k batch len roots))
-honest-column k batch len siblings delta roots pos full found c h =
-    let fits = column-tree k c pos full h in
+-- the siblings of an honest setup, and corrections that with each tree's u give a column: the sender's column is the receiver's ⊕ delta's bit
+-- times the column of its tree
+pub corrected-column : (n k : ℕ) (stream : ℕ → List ℕ → ℕ) (len : ℕ) (siblings delta roots : List ℕ) (correction column : ℕ → List ℕ)
+    → ((i : ℕ) → i < n → treePart k 32 i siblings ≡ concat k (siblingNode k (rootOf roots i) (deltaOf k delta i)))
+    → ((i x : ℕ) → i < n → x < len → bitXor (uAt k (rootOf roots i) (λ y leaf. stream x leaf)) (getD (correction i) x 0) ≡ getD (column i) x 0)
+    → (c : ℕ) → c < n * k
+    → columnOf len (senderTable n k stream len siblings delta correction) c
+    ≡ xorList (columnOf len (receiverTable n k stream len roots) c) (scale (bitAt delta c) (column (c / k)))
+corrected-column n k stream len siblings delta roots correction column found meets c h =
+    let fits = column-tree n k c h in
     let i : ℕ = c / k in
     let d : ℕ = deltaOf k delta i in
-    sender-table k batch len siblings delta (correctionOf k batch len roots) pos full c h
-    ∙ ap (λ (s : List ℕ). senderColumn k batch len s d (treeCorrection len (correctionOf k batch len roots) i) (c % k)) (found i (fits .0))
-    ∙ sender-column k batch len roots d i (c % k) (delta-lt k delta i) (fits .0)
-    ∙ ap₂ (λ (v : List ℕ) (p : ℕ). xorList v (scale p (choicesOf k batch len roots)))
-    (sym (receiver-table k batch len roots pos full c h)) (delta-bit k delta c (fits .1))
+    sender-table n k stream len siblings delta correction c h
+    ∙ ap (λ (s : List ℕ). senderColumn k stream len s d (correction i) (c % k)) (found i (fits .0))
+    ∙ sender-column k stream len (rootOf roots i) d (correction i) (column i) (c % k) (delta-lt k delta i) (λ x lt. meets i x (fits .0) lt)
+    ∙ ap₂ (λ (v : List ℕ) (p : ℕ). xorList v (scale p (column i)))
+    (sym (receiver-table n k stream len roots c h)) (delta-bit k delta c (fits .1))
 
--- which are the nodes beside the paths
-pub honest-table : (k batch len : ℕ) (delta roots : List ℕ) → 0 < k → treesOf k * k ≡ columns → (c : ℕ) → c < columns
+-- with the nodes beside the paths and the honest correction that column is the choices, in every tree
+pub honest-table : (n k : ℕ) (stream : ℕ → List ℕ → ℕ) (len : ℕ) (delta roots : List ℕ) (c : ℕ) → c < n * k
     → columnOf len
-    (senderTable k batch len (concat (treesOf k) (λ i. concat k (siblingNode k (rootOf roots i) (deltaOf k delta i)))) delta
-    (correctionOf k batch len roots)) c
-    ≡ xorList (columnOf len (receiverTable k batch len roots) c) (scale (bitAt delta c) (choicesOf k batch len roots))
-honest-table k batch len delta roots pos full =
-    honest-column k batch len (concat (treesOf k) (λ i. concat k (siblingNode k (rootOf roots i) (deltaOf k delta i)))) delta roots pos full
-    (beside-part k delta roots)
+    (senderTable n k stream len (concat n (λ i. concat k (siblingNode k (rootOf roots i) (deltaOf k delta i)))) delta
+    (treeCorrection len (correctionOf n k stream len roots))) c
+    ≡ xorList (columnOf len (receiverTable n k stream len roots) c) (scale (bitAt delta c) (choicesOf k stream len roots))
+honest-table n k stream len delta roots =
+    corrected-column n k stream len (concat n (λ i. concat k (siblingNode k (rootOf roots i) (deltaOf k delta i)))) delta roots
+    (treeCorrection len (correctionOf n k stream len roots)) (λ i. choicesOf k stream len roots)
+    (beside-part n k delta roots) (λ i x. corrected n k stream len roots i x)

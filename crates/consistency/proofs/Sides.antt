@@ -13,7 +13,6 @@ use Rattle.words.specs.Bytes.{Bytes, bytes, word64, concat}
 use Rattle.words.proofs.Xor.{xor-zero-eq}
 use Rattle.gf64.specs.Field.{foldBytes}
 use Rattle.gf64.specs.Check.{choiceSide}
-use Rattle.sizes.specs.Sizes.{columns}
 use Rattle.tree.specs.Layout.{columnOf}
 use Rattle.consistency.specs.Message.{sentChoice, sentColumn, sidesEqual, every}
 use Rattle.consistency.proofs.Every.{same-when, every-more}
@@ -35,15 +34,15 @@ xor-test a b =
     (λ e. eq-eqb (bitXor a b) 0 (ap (λ (x : ℕ). bitXor x b) (eqb-true a b e) ∙ xor-self b))
 
 -- the columns below c are compared, and one more is: d is the sum of its sides
-pub compared-more : (len g : ℕ) (table delta message folds : List ℕ) → g < 2 ^ 64 → Bytes table
-    → folds ≡ concat columns (λ c. bytes 8 (foldBytes g (columnOf len table c)))
-    → (all d c : ℕ) → c < columns
+pub compared-more : (m len g : ℕ) (table delta message folds : List ℕ) → g < 2 ^ 64 → Bytes table
+    → folds ≡ concat m (λ c. bytes 8 (foldBytes g (columnOf len table c)))
+    → (all d c : ℕ) → c < m
     → d ≡ bitXor (bitXor (sentColumn message c) (word64 folds (8 * c))) (choiceSide (bitAt delta c) (sentChoice message))
     → eqb all 0 ≡ every c (sidesEqual len g table delta message)
     → eqb (bitOr all d) 0 ≡ every (c + 1) (sidesEqual len g table delta message)
-compared-more len g table delta message folds hg h made all d c lt sum before =
+compared-more m len g table delta message folds hg h made all d c lt sum before =
     let choice : ℕ = choiceSide (bitAt delta c) (sentChoice message) in
-    let fold = ap (λ (s : List ℕ). word64 s (8 * c)) made ∙ fold-at len g table hg h c lt in
+    let fold = ap (λ (s : List ℕ). word64 s (8 * c)) made ∙ fold-at m len g table hg h c lt in
     let here =
     ap (λ (x : ℕ). eqb x 0) (sum ∙ ap (λ (f : ℕ). bitXor (bitXor (sentColumn message c) f) choice) fold)
     ∙ xor-test (bitXor (sentColumn message c) (foldBytes g (columnOf len table c))) choice in

@@ -1,4 +1,5 @@
--- The check message, and the check. Paper 01, 'Folding and pads'. len is its L, the bytes of a column. Assumes nothing.
+-- The check message, and the check, over a table of m columns. Paper 01, 'Folding and pads'. len is its L, the bytes of a column. Assumes
+-- nothing.
 use mathlib.Core.Bool.{Bool, true, _&&_}
 use mathlib.Core.List.{List, _++_}
 use Prim.Native.Nat.{ℕ, zero, suc, _+_, _*_}
@@ -7,12 +8,11 @@ use Rattle.words.specs.Bytes.{bytes, word64, concat}
 use Rattle.words.specs.Bits.{bitAt}
 use Rattle.gf64.specs.Field.{foldBytes}
 use Rattle.gf64.specs.Check.{columnSide, choiceSide}
-use Rattle.sizes.specs.Sizes.{columns}
 use Rattle.tree.specs.Layout.{columnOf}
 
--- the check message has the fold of u_0 (choices), then of all 128 columns of V, 8 bytes each
-unfoldable pub checkMessage : (len g : ℕ) (choices table : List ℕ) → List ℕ
-checkMessage len g choices table = bytes 8 (foldBytes g choices) ++ concat columns (λ c. bytes 8 (foldBytes g (columnOf len table c)))
+-- the check message has the fold of u_0 (choices), then of all columns of V (paper 01: 128), 8 bytes each
+unfoldable pub checkMessage : (m len g : ℕ) (choices table : List ℕ) → List ℕ
+checkMessage m len g choices table = bytes 8 (foldBytes g choices) ++ concat m (λ c. bytes 8 (foldBytes g (columnOf len table c)))
 
 -- the sent choice fold of any message, and sent fold c
 abbrev pub sentChoice : List ℕ → ℕ
@@ -32,5 +32,5 @@ every zero holds = true
 every (suc n) holds = every n holds && holds n
 
 -- the sender accepts exactly when they are equal in every column
-unfoldable pub accepts : (len g : ℕ) (table delta message : List ℕ) → Bool
-accepts len g table delta message = every columns (sidesEqual len g table delta message)
+unfoldable pub accepts : (m len g : ℕ) (table delta message : List ℕ) → Bool
+accepts m len g table delta message = every m (sidesEqual len g table delta message)

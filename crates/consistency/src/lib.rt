@@ -2,15 +2,16 @@
 // every byte of a column, at places that only the length decides, and all columns are looked at before the answer. The key and the
 // answer are public.
 ghost use mathlib.Core.Path.{_≡_};
-ghost use Prim.Native.Nat.{ℕ, _+_, _*_, _<_};
+ghost use mathlib.Core.List.{List};
+ghost use Prim.Native.Nat.{ℕ, _+_, _*_, _%_, _^_, _≤_, _<_};
 ghost use lib.ListN.{length, getD};
-ghost use Rattle.words.specs.Bytes.{bytes, word64, concat};
+ghost use Rattle.words.specs.Bytes.{Bytes, bytes, word64, concat};
 ghost use Rattle.words.specs.Bits.{bitAt};
 ghost use Rattle.words.specs.Xor.{_⊕_};
 ghost use Rattle.gf64.specs.Field.{foldBytes};
 ghost use Rattle.gf64.specs.Table.{tableOf};
 ghost use Rattle.gf64.specs.Check.{choiceSide};
-ghost use Rattle.sizes.specs.Sizes.{columns, deltaLength, checkMessageLength};
+ghost use Rattle.sizes.specs.Sizes.{columns};
 ghost use Rattle.tree.specs.Layout.{columnOf};
 ghost use Rattle.consistency.specs.Message.{checkMessage, sentChoice, sentColumn, accepts};
 
@@ -26,13 +27,13 @@ fn store_four(out: &mut [u8], x: [u64; 4])
     }
 }
 
-// The folds of all columns of len bytes, 8 bytes each, by the table of a key. (Both sides of the check fold by it.)
-pub fn fold_columns(t: &[u32; 512], table: &[u8], len: usize, out: &mut [u8])
-    requires { ⌜ (length (now table) ≡ columns * len) × (length (now out) ≡ 8 * columns) ⌝ }
-    ensures { λ _. ⌜ ((g : ℕ) → now (t .entry) ≡ tableOf g → now (out .exit) ≡ concat columns (λ c. bytes 8 (foldBytes g (columnOf len (now (table .entry)) c)))) ⌝ }
+// The folds of m columns of len bytes, 8 bytes each, by the table of a key. (Both sides of the check fold by it.)
+pub fn fold_columns(m: usize, t: &[u32; 512], table: &[u8], len: usize, out: &mut [u8])
+    requires { ⌜ (m % 4 ≡ 0) × (length (now table) ≡ m * len) × (length (now out) ≡ 8 * m) ⌝ }
+    ensures { λ _. ⌜ ((g : ℕ) → now (t .entry) ≡ tableOf g → now (out .exit) ≡ concat m (λ c. bytes 8 (foldBytes g (columnOf len (now (table .entry)) c)))) ⌝ }
 {
     let mut i: usize = 0;
-    while i < 128 {
+    while i < m {
         let next = i + 4;
         let from = i * len;
         let to = next * len;
@@ -44,24 +45,21 @@ pub fn fold_columns(t: &[u32; 512], table: &[u8], len: usize, out: &mut [u8])
     }
 }
 
-// The receiver's message: the fold of its choices, then those of its columns.
-pub fn write_message(key: u64, choices: &[u8], table: &[u8], message: &mut [u8])
-    requires { ⌜ (length (now table) ≡ columns * length (now choices)) × (length (now message) ≡ checkMessageLength) ⌝ }
-    ensures { λ _. ⌜ now (message .exit) ≡ checkMessage (length (now (choices .entry))) key (now (choices .entry)) (now (table .entry)) ⌝ }
+// The receiver's message: the fold of its choices, then those of its m columns.
+pub fn write_message(m: usize, key: u64, choices: &[u8], table: &[u8], message: &mut [u8])
+    requires { ⌜ (m % 4 ≡ 0) × (length (now table) ≡ m * length (now choices)) × (length (now message) ≡ 8 + 8 * m) ⌝ }
+    ensures { λ _. ⌜ now (message .exit) ≡ checkMessage m (length (now (choices .entry))) key (now (choices .entry)) (now (table .entry)) ⌝ }
 {
     words::store64(message, 0, gf64::fold(key, choices));
     let t = gf64::table(key);
-    fold_columns(
-        &t,
-        table,
-        choices.len(),
-        &mut message[8..sizes::CHECK_MESSAGE_LENGTH],
-    );
+    let start: usize = 8;
+    let end = start + 8 * m;
+    fold_columns(m, &t, table, choices.len(), &mut message[start..end]);
 }
 
 // The two sides of the check in column c, added, where folds has those of the sender's columns: 0 where they are equal.
 fn difference(folds: &[u8], delta: &[u8], message: &[u8], c: usize) -> u64
-    requires { ⌜ (c < columns) × (length (now folds) ≡ 8 * columns) × (length (now delta) ≡ deltaLength) × (length (now message) ≡ checkMessageLength) ⌝ }
+    requires { ⌜ (8 * c + 8 ≤ length (now folds)) × (c < 8 * length (now delta)) × (8 * c + 16 ≤ length (now message)) ⌝ }
     ensures { λ r. ⌜ r ≡ ((sentColumn (now (message .entry)) c ⊕ word64 (now (folds .entry)) (8 * c)) ⊕ choiceSide (bitAt (now (delta .entry)) c) (sentChoice (now (message .entry)))) ⌝ }
 {
     let folded = words::load64(folds, 8 * c);
@@ -71,20 +69,29 @@ fn difference(folds: &[u8], delta: &[u8], message: &[u8], c: usize) -> u64
     gf64::add_bit64(sent ^ folded, bit as u64, choice)
 }
 
-// Whether the sender accepts a message: the two sides are equal in every column. No column is told, and none is left out once one
+// Whether the two sides are equal in each of m columns, from the folds of the sender's. No column is told, and none is left out once one
 // differs.
-pub fn accepts(key: u64, table: &[u8], delta: &[u8], message: &[u8], len: usize) -> bool
-    requires { ⌜ (length (now table) ≡ columns * len) × (length (now delta) ≡ deltaLength) × (length (now message) ≡ checkMessageLength) ⌝ }
-    ensures { λ r. ⌜ r ≡ accepts len key (now (table .entry)) (now (delta .entry)) (now (message .entry)) ⌝ }
+fn all_equal(m: usize, folds: &[u8], delta: &[u8], message: &[u8]) -> bool
+    requires { ⌜ (length (now folds) ≡ 8 * m) × (m ≤ 8 * length (now delta)) × (length (now message) ≡ 8 + 8 * m) ⌝ }
+    ensures { λ r. ⌜ ((len g : ℕ) (table : List ℕ) → g < 2 ^ 64 → Bytes table → now (folds .entry) ≡ concat m (λ c. bytes 8 (foldBytes g (columnOf len table c))) → r ≡ accepts m len g table (now (delta .entry)) (now (message .entry))) ⌝ }
 {
-    let t = gf64::table(key);
-    let mut folds = [0u8; 1024];
-    fold_columns(&t, table, len, &mut folds);
     let mut all: u64 = 0;
     let mut c: usize = 0;
-    while c < 128 {
-        all = all | difference(&folds, delta, message, c);
+    while c < m {
+        all = all | difference(folds, delta, message, c);
         c += 1;
     }
     all == 0
+}
+
+// Whether the sender accepts a message for its table of m columns of len bytes.
+pub fn accepts(m: usize, key: u64, table: &[u8], delta: &[u8], message: &[u8], len: usize) -> bool
+    requires { ⌜ (m % 4 ≡ 0) × (m ≤ columns) × (length (now table) ≡ m * len) × (m ≤ 8 * length (now delta)) × (length (now message) ≡ 8 + 8 * m) ⌝ }
+    ensures { λ r. ⌜ r ≡ accepts m len key (now (table .entry)) (now (delta .entry)) (now (message .entry)) ⌝ }
+{
+    let t = gf64::table(key);
+    let size = 8 * m;
+    let mut folds = [0u8; 1024];
+    fold_columns(m, &t, table, len, &mut folds[0..size]);
+    all_equal(m, &folds[0..size], delta, message)
 }

@@ -7,7 +7,7 @@ ghost use Prim.Native.Nat.{_+_, _*_, _≤_};
 ghost use lib.ListN.{length};
 ghost use Rattle.words.specs.Bytes.{part, concat};
 ghost use Rattle.words.specs.Xor.{xorList};
-ghost use Rattle.sizes.specs.Sizes.{deltaLength, tableLength, receiverPadsLength, senderPadsLength};
+ghost use Rattle.sizes.specs.Sizes.{columns, deltaLength, tableLength, receiverPadsLength, senderPadsLength};
 ghost use Rattle.pads.specs.Pads.{padInput, padOf, receiverPads, senderPads};
 
 // The head of each hashed block.
@@ -69,7 +69,7 @@ fn eight_pads(batch: u64, first: u32, values: &[u8], pads: &mut [u8])
 // The receiver's pads: one for each row of its table, but those of the spent block.
 pub fn receiver_pads(batch: u64, blocks: usize, table: &[u8], pads: &mut [u8])
     requires { ⌜ (blocks ≤ 15) × (length (now table) ≡ tableLength blocks) × (length (now pads) ≡ receiverPadsLength blocks) ⌝ }
-    ensures { λ _. ⌜ now (pads .exit) ≡ receiverPads blocks batch (now (table .entry)) ⌝ }
+    ensures { λ _. ⌜ now (pads .exit) ≡ receiverPads columns blocks batch (now (table .entry)) ⌝ }
 {
     let len = 8 * (blocks + 1);
     let groups = 8 * blocks;
@@ -118,7 +118,7 @@ fn eight_pairs(batch: u64, first: u32, values: [u8; 128], delta: &[u8], pairs: &
 // The sender's pads: two for each row of its table, but those of the spent block.
 pub fn sender_pads(batch: u64, blocks: usize, table: &[u8], delta: &[u8], pads: &mut [u8])
     requires { ⌜ (blocks ≤ 15) × (length (now table) ≡ tableLength blocks) × (length (now delta) ≡ deltaLength) × (length (now pads) ≡ senderPadsLength blocks) ⌝ }
-    ensures { λ _. ⌜ now (pads .exit) ≡ senderPads blocks batch (now (table .entry)) (now (delta .entry)) ⌝ }
+    ensures { λ _. ⌜ now (pads .exit) ≡ senderPads columns blocks batch (now (table .entry)) (now (delta .entry)) ⌝ }
 {
     let len = 8 * (blocks + 1);
     let mut at = 0;

@@ -1,30 +1,27 @@
 -- Four trees as a part of all: their sides, siblings and corrections. Assumes nothing.
-use mathlib.Core.Path.{_≡_, sym, ap, ap₂, _∙_}
-use mathlib.Core.Bool.{true}
-use mathlib.Core.List.{List, _++_}
+use mathlib.Core.Path.{_≡_, refl, sym, ap, ap₂, _∙_}
+use mathlib.Core.List.{List, [], _++_}
 use Prim.Native.Nat.{ℕ, zero, suc, _+_, _-_, _*_, _/_, _%_, _≤_, _<_}
 use native.Mathlib.Omega.{arith}
 use lib.ListN.{length, getD, List·getD-append}
-use native.Mathlib.Nat.{suc-mul, add-mul}
+use native.Mathlib.Nat.{zero-lt-suc, suc-mul, add-mul, mul-le-mul-right}
+use native.Mathlib.Decide.{ℕ-discrete}
 use lib.Arith.{digits-div, digits-mod}
-use Rattle.words.specs.Bytes.{part, bytes, put}
+use Rattle.words.specs.Bytes.{part, bytes}
 use Rattle.words.specs.Lanes.{laneBytes}
 use Rattle.words.proofs.Lists.{tabulate-same}
-use Rattle.words.proofs.Parts.{put-before, put-in}
-use Rattle.words.proofs.Concat.{part-at, part-part, place-fits, place-part}
+use Rattle.words.proofs.Numbers.{bytes-zero}
+use Rattle.words.proofs.Concat.{part-at, place-fits, place-part}
 use Rattle.words.proofs.LaneBytes.{laneBytes-length, laneBytes-at, lane-is}
 use Rattle.words.specs.Bits.{bitOf}
 use Rattle.words.specs.Xor.{_⊕_}
-use Rattle.tree.specs.Tree.{streamByte}
 use Rattle.tree.specs.Path.{sideOf}
-use Rattle.sizes.specs.Sizes.{widthAllowed, treesOf}
 use Rattle.tree.specs.Layout.{deltaOf}
 use Rattle.tree.specs.Sides.{sidesOf}
-use Rattle.sizes.proofs.Widths.{width-fits}
 use Rattle.tree.proofs.Sides.{sides-at}
 use Rattle.columns.specs.Columns.{besideAt, senderColumn, treeCorrection}
 use Rattle.columns.proofs.Honest.{delta-lt}
-use Rattle.sender_columns.specs.Lanes.{SidesAre}
+use Rattle.sender_columns.specs.Lanes.{SidesAre, LaneHas}
 
 -- the lanes of a list's first words
 pub lanes-front : (l len : ℕ) (ys zs : List ℕ) → len % 4 ≡ 0 → l < 4 → length ys ≡ len → laneBytes l (len / 4) (ys ++ zs) ≡ laneBytes l (len / 4) ys
@@ -35,49 +32,51 @@ lanes-front l len ys zs four low long =
     ∙ sym (laneBytes-at l (len / 4) ys x lt))
 
 -- a column takes of the correction only what is below its length
-pub same-correction : (k batch len : ℕ) (siblings : List ℕ) (d : ℕ) (c c′ : List ℕ) (b : ℕ) → ((x : ℕ) → x < len → getD c x 0 ≡ getD c′ x 0)
-    → senderColumn k batch len siblings d c b ≡ senderColumn k batch len siblings d c′ b
+pub same-correction : (k : ℕ) (stream : ℕ → List ℕ → ℕ) (len : ℕ) (siblings : List ℕ) (d : ℕ) (c c′ : List ℕ) (b : ℕ) → ((x : ℕ) → x < len → getD c x 0 ≡ getD c′ x 0)
+    → senderColumn k stream len siblings d c b ≡ senderColumn k stream len siblings d c′ b
 unfolding senderColumn
-same-correction k batch len siblings d c c′ b same =
-    tabulate-same len _ _ (λ x lt. ap (λ (y : ℕ). besideAt k siblings d (λ y leaf. streamByte batch x leaf) b ⊕ bitOf d b * y) (same x lt))
+same-correction k stream len siblings d c c′ b same =
+    tabulate-same len _ _ (λ x lt. ap (λ (y : ℕ). besideAt k siblings d (λ y leaf. stream x leaf) b ⊕ bitOf d b * y) (same x lt))
 
--- the corrections of the first four trees, laid over zeros after the place of tree 0
-pub first-correction : (len : ℕ) (none correction : List ℕ) (i x : ℕ) → length correction ≡ 3 * len → 4 * len ≤ length none → ((x : ℕ) → getD none x 0 ≡ 0)
-    → i < 4 → x < len → getD (part (i * len) len (part 0 (4 * len - 0) (put none len correction))) x 0 ≡ getD (treeCorrection len correction i) x 0
+-- ---- the corrections of four trees
+
+pub one-fits : (i m : ℕ) → 0 < i → m ≤ i * m
+one-fits i m pos = omega (arith, mul-le-mul-right m pos)
+
+-- tree 0 has none
+pub none-there : (len : ℕ) (correction : List ℕ) (i : ℕ) → (0 < i → ⊥) → treeCorrection len correction i ≡ []
 unfolding treeCorrection
-first-correction len none correction i x long room zeros hi lt =
-    let inside : i * len + x < 4 * len - 0 = omega (arith, place-fits i 4 len hi) in
-    part-at (i * len) len (part 0 (4 * len - 0) (put none len correction)) x lt
-    ∙ part-at 0 (4 * len - 0) (put none len correction) (i * len + x) inside
-    ∙ at i hi
+none-there len correction zero none = refl
+none-there len correction (suc i) none = absurd (none (zero-lt-suc i))
+
+-- that of a later tree is a part of all
+pub own-part : (len : ℕ) (correction : List ℕ) (i : ℕ) → 0 < i
+    → part (i * len - len) (i * len - (i * len - len)) correction ≡ treeCorrection len correction i
+unfolding treeCorrection
+own-part len correction zero pos = absurd (omega arith)
+own-part len correction (suc i) pos =
+    let start : suc i * len - len ≡ i * len = omega (arith, suc-mul i len) in
+    let size : suc i * len - (suc i * len - len) ≡ len = omega (arith, suc-mul i len) in
+    ap₂ (λ (a n : ℕ). part a n correction) start size
+
+-- a range that is zero is so in each lane
+pub zero-lanes : (n l : ℕ) (u : List ℕ) → n % 4 ≡ 0 → ((j : ℕ) → getD u j 0 ≡ 0) → LaneHas n l [] u
+zero-lanes n l u four zeros x lt =
+    laneBytes-at l (n / 4) u x (omega arith)
+    ∙ ap (λ (w : ℕ). getD (bytes 4 w) (x % 4) 0) (zeros (4 * (x / 4) + l))
+    ∙ bytes-zero 4 (x % 4)
+
+-- one tree more
+pub lanes-more : (n c : ℕ) (f : ℕ → List ℕ) (u u′ : List ℕ) → c < 4
+    → ((m : ℕ) → m < 4 → (m ≡ c → ⊥) → laneBytes m (n / 4) u′ ≡ laneBytes m (n / 4) u)
+    → LaneHas n c (f c) u′ → ((l : ℕ) → l < c → LaneHas n l (f l) u) → (l : ℕ) → l < c + 1 → LaneHas n l (f l) u′
+lanes-more n c f u u′ low kept new had l lt = here (ℕ-discrete l c)
   where
-    fits : len + length correction ≤ length none
-    fits = omega arith
+    here : Dec (l ≡ c) → LaneHas n l (f l) u′
+    here (yes e) = rw e new
+    here (no ne) = λ x h. ap (λ (s : List ℕ). getD s x 0) (kept l (omega arith) ne) ∙ had l (omega arith) x h
 
-    at : (i : ℕ) → i < 4 → getD (put none len correction) (0 + (i * len + x)) 0 ≡ getD (treeCorrection len correction i) x 0
-    at zero h =
-        let here : 0 + (0 * len + x) ≡ x = omega arith in
-        ap (λ (j : ℕ). getD (put none len correction) j 0) here ∙ put-before none len correction fits x lt ∙ zeros x
-    at (suc i) h =
-        let here : 0 + (suc i * len + x) ≡ len + (i * len + x) = omega (arith, suc-mul i len) in
-        ap (λ (j : ℕ). getD (put none len correction) j 0) here
-        ∙ put-in none len correction fits (i * len + x) (omega (arith, place-fits i 3 len (omega arith)))
-        ∙ sym (part-at (i * len) len correction x lt)
-
--- the corrections of the first four trees as a part of all
-pub first-part : (len : ℕ) (correction : List ℕ) (i j : ℕ) → i ≡ 0 → j < 4
-    → treeCorrection len (part 0 ((i + 3) * len - 0) correction) j ≡ treeCorrection len correction (i + j)
-unfolding treeCorrection
-first-part len correction i zero e h = ap (λ (n : ℕ). treeCorrection len correction (n + 0)) (sym e)
-first-part len correction i (suc j) e h =
-    let three : (i + 3) * len - 0 ≡ 3 * len = omega (arith, ap (λ (n : ℕ). (n + 3) * len) e) in
-    let here : 0 + j * len ≡ j * len = omega arith in
-    let same : suc j ≡ i + suc j = omega (arith, e) in
-    part-part (j * len) len 0 ((i + 3) * len - 0) correction (omega (arith, three, place-fits j 3 len (omega arith)))
-    ∙ ap (λ (a : ℕ). part a len correction) here
-    ∙ ap (treeCorrection len correction) same
-
--- and those of four trees from a later one on
+-- four trees from a later one on
 pub next-part : (len : ℕ) (correction : List ℕ) (i j : ℕ) → 0 < i → j < 4
     → part (j * len) len (part ((i - 1) * len) ((i + 3) * len - (i - 1) * len) correction) ≡ treeCorrection len correction (i + j)
 unfolding treeCorrection
@@ -90,16 +89,16 @@ next-part len correction i j pos h =
 
 -- ---- the sides of four trees
 
-pub four-sides : (k : ℕ) (delta : List ℕ) (i : ℕ) → widthAllowed k ≡ true → i + 4 ≤ treesOf k
-    → SidesAre k (part (i * k) ((i + 4) * k - i * k) (sidesOf k delta)) (λ j. deltaOf k delta (i + j))
-four-sides k delta i allowed fits j hj = (
+pub four-sides : (n k : ℕ) (delta : List ℕ) (i : ℕ) → i + 4 ≤ n
+    → SidesAre k (part (i * k) ((i + 4) * k - i * k) (sidesOf (n * k) k delta)) (λ j. deltaOf k delta (i + j))
+four-sides n k delta i fits j hj = (
   delta-lt k delta (i + j),
   λ l hl.
       let inside : j * k + l < (i + 4) * k - i * k = omega (arith, place-fits j 4 k hj, add-mul i 4 k) in
       let place : i * k + (j * k + l) ≡ (i + j) * k + l = omega (arith, add-mul i j k) in
-      let all : (i + j) * k + l < 128 = omega (arith, place-fits (i + j) (treesOf k) k (omega arith), width-fits k allowed .columns) in
-      part-at (i * k) ((i + 4) * k - i * k) (sidesOf k delta) (j * k + l) inside
-      ∙ ap (λ (c : ℕ). getD (sidesOf k delta) c 0) place
-      ∙ sides-at k delta ((i + j) * k + l) all
+      let all : (i + j) * k + l < n * k = omega (arith, place-fits (i + j) n k (omega arith)) in
+      part-at (i * k) ((i + 4) * k - i * k) (sidesOf (n * k) k delta) (j * k + l) inside
+      ∙ ap (λ (c : ℕ). getD (sidesOf (n * k) k delta) c 0) place
+      ∙ sides-at (n * k) k delta ((i + j) * k + l) all
       ∙ ap₂ (λ (t q : ℕ). sideOf k (deltaOf k delta t) q) (digits-div (i + j) hl) (digits-mod (i + j) hl),
 )

@@ -1,13 +1,15 @@
 -- What the code keeps of four trees. Assumes nothing.
 use mathlib.Core.Path.{_≡_}
-use mathlib.Core.List.{List}
+use mathlib.Core.List.{List, []}
 use Prim.Native.Nat.{ℕ, _+_, _-_, _*_, _/_, _%_, _^_, _≤_, _<_}
 use lib.ListN.{length, getD}
 use Rattle.words.specs.Bytes.{part, tabulate}
 use Rattle.words.specs.Xor.{xorEach, xorPart}
 use Rattle.words.specs.Lanes.{laneBytes}
 use Rattle.tree.specs.Path.{sideOf}
+use Rattle.tree.specs.declared.Stream.{Stream}
 use Rattle.tree.specs.Lanes.{columnWord}
+use Rattle.tree.specs.Streams.{byteOf, wordOf}
 use Rattle.columns.specs.Columns.{senderColumn}
 
 -- sides has, for four trees of k levels, the sides of the numbers d
@@ -16,10 +18,14 @@ SidesAre k sides d = (i : ℕ) → i < 4 → (d i < 2 ^ k) × ((l : ℕ) → l <
 
 -- v has the sender's columns of four trees side by side, n words a column: cut to len bytes, column b in lane i is that of the tree whose
 -- siblings are in lane i of s, whose number is d i and whose correction is in lane i of u
-abbrev pub SenderLanes : ℕ → ℕ → ℕ → (ℕ → ℕ) → List ℕ → List ℕ → List ℕ → Type 0
-SenderLanes k batch n d s u v =
+abbrev pub SenderLanes : ℕ → Stream → ℕ → (ℕ → ℕ) → List ℕ → List ℕ → List ℕ → Type 0
+SenderLanes k stream n d s u v =
     (len i b : ℕ) → len % 4 ≡ 0 → len ≤ n → i < 4 → b < k
-    → laneBytes i (len / 4) (part (b * n) len v) ≡ senderColumn k batch len (laneBytes i (8 * k) s) (d i) (laneBytes i (len / 4) u) b
+    → laneBytes i (len / 4) (part (b * n) len v) ≡ senderColumn k (byteOf stream) len (laneBytes i (8 * k) s) (d i) (laneBytes i (len / 4) u) b
+
+-- lane l of u, n bytes of it, has the bytes of s, and 0 where s has ended
+abbrev pub LaneHas : ℕ → ℕ → List ℕ → List ℕ → Type 0
+LaneHas n l s u = (x : ℕ) → x < n → getD (laneBytes l (n / 4) u) x 0 ≡ getD s x 0
 
 -- the room that four trees of k levels are worked out in, for columns of len bytes: s for the siblings, u for the corrections, v for the columns
 abbrev pub WorkFits : ℕ → ℕ → List ℕ → List ℕ → List ℕ → Type 0
@@ -28,10 +34,10 @@ WorkFits k len s u v =
 
 -- the columns v, n words each, after one more level, where u was before it and u′ is after it: u is added to the level's column where delta has
 -- its bit 0, the columns below the siblings are added to all, and u′ to the level's column
-abbrev pub levelAdded : ℕ → ℕ → ℕ → ℕ → List ℕ → List ℕ → List ℕ → List ℕ → List ℕ → List ℕ
-levelAdded k batch level n sides s u v u′ =
+abbrev pub levelAdded : ℕ → Stream → ℕ → ℕ → List ℕ → List ℕ → List ℕ → List ℕ → List ℕ → List ℕ
+levelAdded k stream level n sides s u v u′ =
     let at : ℕ = (k - 1 - level) * n in
     xorPart
     (xorEach (xorPart v at n (λ i. getD (tabulate 4 (λ j. getD sides (j * k + level) 0)) (i % 4) 0 * getD u i 0))
-    (columnWord batch n (k - 1 - level) (part (32 * level) 32 s)))
+    (columnWord (wordOf stream) n (k - 1 - level) (part (32 * level) 32 s)))
     at n (λ i. getD u′ i 0)

@@ -1,17 +1,19 @@
 // The sender's table, four trees at a time. Delta enters as a side for each base transfer, and a side as a mask: never a branch or an
 // address.
+use tree::Stream;
 ghost use mathlib.Core.Path.{_≡_};
-ghost use mathlib.Core.Bool.{true};
+ghost use mathlib.Core.List.{List, []};
 ghost use Prim.Native.Nat.{ℕ, _+_, _-_, _*_, _/_, _%_, _≤_, _<_};
 ghost use lib.ListN.{length, getD};
 ghost use Rattle.words.specs.Bytes.{part, concat};
+ghost use Rattle.words.specs.Lanes.{laneBytes};
 ghost use Rattle.words.specs.Xor.{xorEach};
 ghost use Rattle.tree.specs.Lanes.{uWord};
-ghost use Rattle.sizes.specs.Sizes.{widthAllowed, columns, treesOf, deltaLength, siblingsLength};
 ghost use Rattle.tree.specs.Layout.{treePart};
-ghost use Rattle.tree.specs.Sides.{Sides};
+ghost use Rattle.tree.specs.Sides.{sidesOf, Sides, TreesFit};
+ghost use Rattle.tree.specs.Streams.{byteOf, wordOf};
 ghost use Rattle.columns.specs.Columns.{senderColumn, senderTable, treeCorrection};
-ghost use Rattle.sender_columns.specs.Lanes.{SidesAre, SenderLanes, WorkFits, levelAdded};
+ghost use Rattle.sender_columns.specs.Lanes.{SidesAre, SenderLanes, WorkFits, LaneHas, levelAdded};
 
 // Adds u to v in the lanes whose side is 1.
 fn add_where(v: &mut [u32], u: &[u32], sides: [u8; 4])
@@ -41,7 +43,7 @@ fn add_where(v: &mut [u32], u: &[u32], sides: [u8; 4])
 fn add_level(
     k: usize,
     level: usize,
-    batch: u32,
+    stream: Stream,
     sides: &[u8],
     s: &[u32],
     u: &mut [u32],
@@ -49,84 +51,90 @@ fn add_level(
 )
     requires { ⌜ (level < k) × (k ≤ 8) × (length (now sides) ≡ 4 * k) × Sides (now sides) × (length (now s) ≡ 32 * k) ⌝ }
     requires { ⌜ (length (now u) % 64 ≡ 0) × (length (now u) ≤ 512) × (0 < length (now u)) × (length (now v) ≡ k * length (now u)) ⌝ }
-    ensures { λ _. ⌜ now (u .exit) ≡ xorEach (now (u .entry)) (uWord batch (k - 1 - level) (part (32 * level) 32 (now (s .entry)))) ⌝ }
-    ensures { λ _. ⌜ now (v .exit) ≡ levelAdded k batch level (length (now (u .entry))) (now (sides .entry)) (now (s .entry)) (now (u .entry)) (now (v .entry)) (now (u .exit)) ⌝ }
+    ensures { λ _. ⌜ now (u .exit) ≡ xorEach (now (u .entry)) (uWord (wordOf stream) (k - 1 - level) (part (32 * level) 32 (now (s .entry)))) ⌝ }
+    ensures { λ _. ⌜ now (v .exit) ≡ levelAdded k stream level (length (now (u .entry))) (now (sides .entry)) (now (s .entry)) (now (u .entry)) (now (v .entry)) (now (u .exit)) ⌝ }
 {
     let r = k - 1 - level;
     let at = r * u.len();
     let end = at + u.len();
     add_where(&mut v[at..end], u, tree::side::of_four(k, level, sides));
-    tree::walk(&tree::nodes_at(s, 32 * level), r, batch, u, v);
+    tree::walk(&tree::nodes_at(s, 32 * level), r, stream, u, v);
     add_where(&mut v[at..end], u, [1; 4]);
 }
 
 // All levels of four trees of k levels, from their siblings in s. u has the corrections, and v is zero.
-fn add_levels(k: usize, batch: u32, sides: &[u8], s: &[u32], u: &mut [u32], v: &mut [u32])
+fn add_levels(k: usize, stream: Stream, sides: &[u8], s: &[u32], u: &mut [u32], v: &mut [u32])
     requires { ⌜ (k ≤ 8) × (length (now sides) ≡ 4 * k) × Sides (now sides) × (length (now s) ≡ 32 * k) ⌝ }
     requires { ⌜ (length (now u) % 64 ≡ 0) × (length (now u) ≤ 512) × (0 < length (now u)) × (length (now v) ≡ k * length (now u)) × ((i : ℕ) → getD (now v) i 0 ≡ 0) ⌝ }
-    ensures { λ _. ⌜ ((d : ℕ → ℕ) → SidesAre k (now (sides .entry)) d → SenderLanes k batch (length (now (u .entry))) d (now (s .entry)) (now (u .entry)) (now (v .exit))) ⌝ }
+    ensures { λ _. ⌜ ((d : ℕ → ℕ) → SidesAre k (now (sides .entry)) d → SenderLanes k stream (length (now (u .entry))) d (now (s .entry)) (now (u .entry)) (now (v .exit))) ⌝ }
 {
     let mut level = 0;
     while level < k {
-        add_level(k, level, batch, sides, s, u, v);
+        add_level(k, level, stream, sides, s, u, v);
         level += 1;
     }
 }
 
-// The columns of four trees of k levels, from their sides, siblings and corrections. s, u and v are room to work in, whatever they hold.
+// Fills lane l of t from s.
+fn load_lane(t: &mut [u32], s: &[u8], l: usize)
+    requires { ⌜ (l < 4) × (length (now t) % 4 ≡ 0) × (length (now s) ≡ length (now t)) ⌝ }
+    ensures { λ _. ⌜ laneBytes l (length (now (t .entry)) / 4) (now (t .exit)) ≡ now (s .entry) ⌝ }
+    ensures { λ _. ⌜ ((m : ℕ) → m < 4 → (m ≡ l → ⊥) → laneBytes m (length (now (t .entry)) / 4) (now (t .exit)) ≡ laneBytes m (length (now (t .entry)) / 4) (now (t .entry))) ⌝ }
+{
+    let n = t.len();
+    let mut i = 0;
+    while i < n {
+        t[i + l] = words::load32(s, i);
+        i += 4;
+    }
+}
+
+// Loads the correction of tree i into lane l of u, which is zero. Tree 0 has none; those of the others stand one after the other.
+fn load_correction(i: usize, correction: &[u8], u: &mut [u32], l: usize)
+    requires { ⌜ (l < 4) × (length (now u) % 4 ≡ 0) × (i * length (now u) ≤ length (now correction)) × LaneHas (length (now u)) l [] (now u) ⌝ }
+    ensures { λ _. ⌜ LaneHas (length (now (u .entry))) l (treeCorrection (length (now (u .entry))) (now (correction .entry)) i) (now (u .exit)) ⌝ }
+    ensures { λ _. ⌜ ((m : ℕ) → m < 4 → (m ≡ l → ⊥) → laneBytes m (length (now (u .entry)) / 4) (now (u .exit)) ≡ laneBytes m (length (now (u .entry)) / 4) (now (u .entry))) ⌝ }
+{
+    if i > 0 {
+        let end = i * u.len();
+        let at = end - u.len();
+        load_lane(u, &correction[at..end], l);
+    }
+}
+
+// The same for four trees from tree i on, tree by tree.
+fn load_each(i: usize, correction: &[u8], u: &mut [u32])
+    requires { ⌜ (i ≤ 128) × (length (now u) % 4 ≡ 0) × ((i + 3) * length (now u) ≤ length (now correction)) × ((j : ℕ) → getD (now u) j 0 ≡ 0) ⌝ }
+    ensures { λ _. ⌜ ((l : ℕ) → l < 4 → LaneHas (length (now (u .entry))) l (treeCorrection (length (now (u .entry))) (now (correction .entry)) (i + l)) (now (u .exit))) ⌝ }
+{
+    let mut l = 0;
+    while l < 4 {
+        load_correction(i + l, correction, u, l);
+        l += 1;
+    }
+}
+
+// The same; where each of the four trees has a correction, all at once.
+fn load_corrections(i: usize, correction: &[u8], u: &mut [u32])
+    requires { ⌜ (i ≤ 128) × (length (now u) % 4 ≡ 0) × ((i + 3) * length (now u) ≤ length (now correction)) × ((j : ℕ) → getD (now u) j 0 ≡ 0) ⌝ }
+    ensures { λ _. ⌜ ((l : ℕ) → l < 4 → LaneHas (length (now (u .entry))) l (treeCorrection (length (now (u .entry))) (now (correction .entry)) (i + l)) (now (u .exit))) ⌝ }
+{
+    if i == 0 {
+        load_each(i, correction, u);
+    } else {
+        let start = (i - 1) * u.len();
+        let end = (i + 3) * u.len();
+        words::load_lanes(u, &correction[start..end]);
+    }
+}
+
+// The columns of four trees of k levels from tree i on, from their sides and siblings and all corrections. s, u and v are room to work in,
+// whatever they hold.
 fn four_trees(
-    k: usize,
-    len: usize,
-    batch: u32,
-    sides: &[u8],
-    siblings: &[u8],
-    correction: &[u8],
-    s: &mut [u32],
-    u: &mut [u32],
-    v: &mut [u32],
-    table: &mut [u8],
-)
-    requires { ⌜ (k ≤ 8) × (length (now sides) ≡ 4 * k) × Sides (now sides) × (length (now siblings) ≡ 4 * (32 * k)) × (length (now correction) ≡ 4 * len) × (length (now table) ≡ 4 * (k * len)) ⌝ }
-    requires { ⌜ WorkFits k len (now s) (now u) (now v) ⌝ }
-    ensures { λ _. ⌜ ((d : ℕ → ℕ) → SidesAre k (now (sides .entry)) d → now (table .exit) ≡ concat 4 (λ i. concat k (senderColumn k batch len (treePart k 32 i (now (siblings .entry))) (d i) (part (i * len) len (now (correction .entry)))))) ⌝ }
-{
-    words::clear(u);
-    words::clear(v);
-    words::load_lanes(&mut u[0..len], correction);
-    words::load_lanes(s, siblings);
-    add_levels(k, batch, sides, s, u, v);
-    columns::store_trees(k, len, u.len(), v, table);
-}
-
-// The same for the first four, of which tree 0 has no correction.
-fn first_trees(
-    k: usize,
-    len: usize,
-    batch: u32,
-    sides: &[u8],
-    siblings: &[u8],
-    correction: &[u8],
-    s: &mut [u32],
-    u: &mut [u32],
-    v: &mut [u32],
-    table: &mut [u8],
-)
-    requires { ⌜ (k ≤ 8) × (length (now sides) ≡ 4 * k) × Sides (now sides) × (length (now siblings) ≡ 4 * (32 * k)) × (length (now correction) ≡ 3 * len) × (length (now table) ≡ 4 * (k * len)) ⌝ }
-    requires { ⌜ WorkFits k len (now s) (now u) (now v) ⌝ }
-    ensures { λ _. ⌜ ((d : ℕ → ℕ) → SidesAre k (now (sides .entry)) d → now (table .exit) ≡ concat 4 (λ i. concat k (senderColumn k batch len (treePart k 32 i (now (siblings .entry))) (d i) (treeCorrection len (now (correction .entry)) i)))) ⌝ }
-{
-    let mut all = [0u8; 512];
-    words::copy_part(&mut all, len, correction);
-    let end = 4 * len;
-    four_trees(k, len, batch, sides, siblings, &all[0..end], s, u, v, table);
-}
-
-// The same for four trees from tree i on, whose corrections begin with that of tree i, or of tree 1 where i is 0.
-fn trees_from(
     i: usize,
     k: usize,
     len: usize,
-    batch: u32,
+    stream: Stream,
     sides: &[u8],
     siblings: &[u8],
     correction: &[u8],
@@ -137,58 +145,34 @@ fn trees_from(
 )
     requires { ⌜ (k ≤ 8) × (length (now sides) ≡ 4 * k) × Sides (now sides) × (length (now siblings) ≡ 4 * (32 * k)) × (i ≤ 128) × ((i + 3) * len ≤ length (now correction)) × (length (now table) ≡ 4 * (k * len)) ⌝ }
     requires { ⌜ WorkFits k len (now s) (now u) (now v) ⌝ }
-    ensures { λ _. ⌜ ((d : ℕ → ℕ) → SidesAre k (now (sides .entry)) d → now (table .exit) ≡ concat 4 (λ j. concat k (senderColumn k batch len (treePart k 32 j (now (siblings .entry))) (d j) (treeCorrection len (now (correction .entry)) (i + j))))) ⌝ }
+    ensures { λ _. ⌜ ((d : ℕ → ℕ) → SidesAre k (now (sides .entry)) d → now (table .exit) ≡ concat 4 (λ j. concat k (senderColumn k (byteOf stream) len (treePart k 32 j (now (siblings .entry))) (d j) (treeCorrection len (now (correction .entry)) (i + j))))) ⌝ }
 {
-    let end = (i + 3) * len;
-    if i == 0 {
-        first_trees(
-            k,
-            len,
-            batch,
-            sides,
-            siblings,
-            &correction[0..end],
-            s,
-            u,
-            v,
-            table,
-        );
-    } else {
-        let start = (i - 1) * len;
-        four_trees(
-            k,
-            len,
-            batch,
-            sides,
-            siblings,
-            &correction[start..end],
-            s,
-            u,
-            v,
-            table,
-        );
-    }
+    words::clear(u);
+    words::clear(v);
+    load_corrections(i, correction, &mut u[0..len]);
+    words::load_lanes(s, siblings);
+    add_levels(k, stream, sides, s, u, v);
+    columns::store_trees(k, len, u.len(), v, table);
 }
 
-// The columns of all trees, worked out in s, u and v.
+// The columns of all n trees, worked out in s, u and v. sides has a side for each base transfer.
 fn all_trees(
+    n: usize,
     k: usize,
     len: usize,
-    batch: u32,
+    stream: Stream,
+    sides: &[u8],
     siblings: &[u8],
-    delta: &[u8],
     correction: &[u8],
     s: &mut [u32],
     u: &mut [u32],
     v: &mut [u32],
     table: &mut [u8],
 )
-    requires { ⌜ (widthAllowed k ≡ true) × (length (now siblings) ≡ siblingsLength) × (length (now delta) ≡ deltaLength) × (length (now correction) ≡ (treesOf k - 1) * len) × (length (now table) ≡ columns * len) ⌝ }
+    requires { ⌜ TreesFit n k × (length (now sides) ≡ n * k) × Sides (now sides) × (length (now siblings) ≡ n * (32 * k)) × (length (now correction) ≡ (n - 1) * len) × (length (now table) ≡ n * (k * len)) ⌝ }
     requires { ⌜ WorkFits k len (now s) (now u) (now v) ⌝ }
-    ensures { λ _. ⌜ now (table .exit) ≡ senderTable k batch len (now (siblings .entry)) (now (delta .entry)) (now (correction .entry)) ⌝ }
+    ensures { λ _. ⌜ ((delta : List ℕ) → now (sides .entry) ≡ sidesOf (n * k) k delta → now (table .exit) ≡ senderTable n k (byteOf stream) len (now (siblings .entry)) delta (treeCorrection len (now (correction .entry)))) ⌝ }
 {
-    let sides = tree::side::all(k, delta);
-    let n = 128 / k;
     let size = 32 * k;
     let wide = k * len;
     let mut i = 0;
@@ -200,11 +184,11 @@ fn all_trees(
         let to = next * size;
         let start = i * wide;
         let end = next * wide;
-        trees_from(
+        four_trees(
             i,
             k,
             len,
-            batch,
+            stream,
             &sides[first..last],
             &siblings[from..to],
             correction,
@@ -217,18 +201,20 @@ fn all_trees(
     }
 }
 
-// The sender's table of a batch whose columns have len bytes.
-pub fn correct(
+// The same, with room of its own.
+fn all_columns(
+    n: usize,
     k: usize,
     len: usize,
-    batch: u32,
+    stream: Stream,
+    sides: &[u8],
     siblings: &[u8],
-    delta: &[u8],
     correction: &[u8],
     table: &mut [u8],
 )
-    requires { ⌜ (widthAllowed k ≡ true) × (0 < len) × (len ≤ 128) × (len % 8 ≡ 0) × (length (now siblings) ≡ siblingsLength) × (length (now delta) ≡ deltaLength) × (length (now correction) ≡ (treesOf k - 1) * len) × (length (now table) ≡ columns * len) ⌝ }
-    ensures { λ _. ⌜ now (table .exit) ≡ senderTable k batch len (now (siblings .entry)) (now (delta .entry)) (now (correction .entry)) ⌝ }
+    requires { ⌜ TreesFit n k × (length (now sides) ≡ n * k) × Sides (now sides) × (length (now siblings) ≡ n * (32 * k)) × (length (now correction) ≡ (n - 1) * len) × (length (now table) ≡ n * (k * len)) ⌝ }
+    requires { ⌜ (0 < len) × (len ≤ 128) × (len % 8 ≡ 0) ⌝ }
+    ensures { λ _. ⌜ ((delta : List ℕ) → now (sides .entry) ≡ sidesOf (n * k) k delta → now (table .exit) ≡ senderTable n k (byteOf stream) len (now (siblings .entry)) delta (treeCorrection len (now (correction .entry)))) ⌝ }
 {
     let size = 32 * k;
     let room = columns::room(len);
@@ -237,15 +223,46 @@ pub fn correct(
     let mut u = [0u32; 128];
     let mut v = [0u32; 1024];
     all_trees(
+        n,
         k,
         len,
-        batch,
+        stream,
+        sides,
         siblings,
-        delta,
         correction,
         &mut s[0..size],
         &mut u[0..room],
         &mut v[0..wide],
+        table,
+    );
+}
+
+// The sender's table of n trees of k levels, by a stream, whose columns have len bytes.
+pub fn correct(
+    n: usize,
+    k: usize,
+    len: usize,
+    stream: Stream,
+    siblings: &[u8],
+    delta: &[u8],
+    correction: &[u8],
+    table: &mut [u8],
+)
+    requires { ⌜ TreesFit n k × (n * k ≤ 8 * length (now delta)) × (length (now siblings) ≡ n * (32 * k)) × (length (now correction) ≡ (n - 1) * len) × (length (now table) ≡ n * (k * len)) ⌝ }
+    requires { ⌜ (0 < len) × (len ≤ 128) × (len % 8 ≡ 0) ⌝ }
+    ensures { λ _. ⌜ now (table .exit) ≡ senderTable n k (byteOf stream) len (now (siblings .entry)) (now (delta .entry)) (treeCorrection len (now (correction .entry))) ⌝ }
+{
+    let transfers = n * k;
+    let mut sides = [0u8; 128];
+    tree::side::all(k, delta, &mut sides[0..transfers]);
+    all_columns(
+        n,
+        k,
+        len,
+        stream,
+        &sides[0..transfers],
+        siblings,
+        correction,
         table,
     );
 }

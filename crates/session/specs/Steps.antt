@@ -3,8 +3,9 @@ use mathlib.Core.Path.{_≡_}
 use mathlib.Core.List.{List}
 use Prim.Native.Nat.{ℕ}
 use lib.ListN.{length}
-use Rattle.sizes.specs.Sizes.{columnLength}
-use Rattle.columns.specs.Columns.{choicesOf, receiverTable, correctionOf, senderTable}
+use Rattle.tree.specs.Tree.{streamByte}
+use Rattle.sizes.specs.Sizes.{columns, treesOf, columnLength}
+use Rattle.columns.specs.Columns.{choicesOf, receiverTable, correctionOf, treeCorrection, senderTable}
 use Rattle.consistency.specs.Message.{checkMessage, accepts}
 use Rattle.pads.specs.Pads.{receiverPads, senderPads}
 use Rattle.answer.specs.declared.Answer.{Answer}
@@ -19,21 +20,25 @@ pub record OpenSession (r : Record) (width : ℕ) (answer : Answer) (r′ : Reco
 
 -- ---- the two that open a batch
 
--- all that the receiver's start promises, whatever it is given: its answer, and what the record and each lent range then hold
+-- all that the receiver's start promises, whatever it is given: its answer, and what the record and each lent range then hold. There are
+-- n = 128/k trees, and a leaf's stream is drawn under the batch number
 pub record ReceiverStart (r : Record) (roots : List ℕ) (batch blocks : ℕ) (choices table correction : List ℕ)
     (answer : Answer) (r′ : Record) (choices′ table′ correction′ : List ℕ) : Type 0 where
   pub answered : answer ≡ firstOf (startOrder r batch blocks (length roots) (length choices) (length table) (length correction))
   pub recorded : r′ ≡ whenDone answer (withBatch r batch blocks) r
-  pub chosen : choices′ ≡ whenDone answer (choicesOf (r .width) batch (columnLength blocks) roots) choices
-  pub filled : table′ ≡ whenDone answer (receiverTable (r .width) batch (columnLength blocks) roots) table
-  pub corrected : correction′ ≡ whenDone answer (correctionOf (r .width) batch (columnLength blocks) roots) correction
+  pub chosen : choices′ ≡ whenDone answer (choicesOf (r .width) (streamByte batch) (columnLength blocks) roots) choices
+  pub filled : table′ ≡ whenDone answer (receiverTable (treesOf (r .width)) (r .width) (streamByte batch) (columnLength blocks) roots) table
+  pub corrected : correction′
+      ≡ whenDone answer (correctionOf (treesOf (r .width)) (r .width) (streamByte batch) (columnLength blocks) roots) correction
 
 -- all that the sender's correction promises
 pub record SenderCorrect (r : Record) (siblings delta : List ℕ) (batch blocks : ℕ) (correction table : List ℕ)
     (answer : Answer) (r′ : Record) (table′ : List ℕ) : Type 0 where
   pub answered : answer ≡ firstOf (correctOrder r batch blocks (length siblings) (length delta) (length correction) (length table))
   pub recorded : r′ ≡ whenDone answer (withBatch r batch blocks) r
-  pub filled : table′ ≡ whenDone answer (senderTable (r .width) batch (columnLength blocks) siblings delta correction) table
+  pub filled : table′
+      ≡ whenDone answer (senderTable (treesOf (r .width)) (r .width) (streamByte batch) (columnLength blocks) siblings delta
+      (treeCorrection (columnLength blocks) correction)) table
 
 -- ---- the two that end it
 
@@ -42,12 +47,14 @@ pub record ReceiverAnswer (r : Record) (key : ℕ) (choices table message pads :
     (answer : Answer) (r′ : Record) (message′ pads′ : List ℕ) : Type 0 where
   pub answered : answer ≡ firstOf (answerOrder r (length choices) (length table) (length message) (length pads))
   pub recorded : r′ ≡ whenDone answer (withoutBatch r) r
-  pub told : message′ ≡ whenDone answer (checkMessage (columnLength (r .blocks)) key choices table) message
-  pub padded : pads′ ≡ whenDone answer (receiverPads (r .blocks) (r .last) table) pads
+  pub told : message′ ≡ whenDone answer (checkMessage columns (columnLength (r .blocks)) key choices table) message
+  pub padded : pads′ ≡ whenDone answer (receiverPads columns (r .blocks) (r .last) table) pads
 
 -- all that the sender's verify promises
 pub record SenderVerify (r : Record) (key : ℕ) (table delta message pads : List ℕ)
     (answer : Answer) (r′ : Record) (pads′ : List ℕ) : Type 0 where
-  pub answered : answer ≡ firstOf (verifyOrder r (length table) (length delta) (length message) (length pads) (accepts (columnLength (r .blocks)) key table delta message))
+  pub answered : answer
+      ≡ firstOf (verifyOrder r (length table) (length delta) (length message) (length pads)
+      (accepts columns (columnLength (r .blocks)) key table delta message))
   pub recorded : r′ ≡ whenDone answer (withoutBatch r) (whenFailed answer (closed r) r)
-  pub padded : pads′ ≡ whenDone answer (senderPads (r .blocks) (r .last) table delta) pads
+  pub padded : pads′ ≡ whenDone answer (senderPads columns (r .blocks) (r .last) table delta) pads

@@ -1,6 +1,7 @@
 // A session's steps by value: the record goes in and comes back.
 use answer::Answer;
 use rules::Record;
+use tree::Stream;
 ghost use Rattle.session.specs.Steps.{OpenSession, ReceiverStart, SenderCorrect, ReceiverAnswer, SenderVerify};
 
 // What a step gives back: its answer, and the record after it.
@@ -44,7 +45,16 @@ pub fn receiver_start(
         correction.len(),
     );
     if answer::is_done(answer) {
-        receiver_columns::start(r.width as usize, roots, batch, choices, table, correction);
+        let n = sizes::trees_of(r.width);
+        receiver_columns::start(
+            n,
+            r.width as usize,
+            Stream { batch },
+            roots,
+            choices,
+            table,
+            correction,
+        );
         let record = rules::with_batch(r, batch, blocks);
         Stepped { answer, record }
     } else {
@@ -75,10 +85,12 @@ pub fn sender_correct(
     );
     if answer::is_done(answer) {
         let len = sizes::column_length(blocks);
+        let n = sizes::trees_of(r.width);
         sender_columns::correct(
+            n,
             r.width as usize,
             len,
-            batch,
+            Stream { batch },
             siblings,
             delta,
             correction,
@@ -104,7 +116,7 @@ pub fn receiver_answer(
 {
     let answer = orders::receiver_answer(r, choices.len(), table.len(), message.len(), pads.len());
     if answer::is_done(answer) {
-        consistency::write_message(key, choices, table, message);
+        consistency::write_message(sizes::COLUMNS, key, choices, table, message);
         pads::receiver_pads(r.last as u64, r.blocks as usize, table, pads);
         let record = rules::without_batch(r);
         Stepped { answer, record }
@@ -127,7 +139,7 @@ pub fn sender_verify(
     let answer = orders::sender_verify(r, table.len(), delta.len(), message.len(), pads.len());
     if answer::is_done(answer) {
         let len = sizes::column_length(r.blocks);
-        if consistency::accepts(key, table, delta, message, len) {
+        if consistency::accepts(sizes::COLUMNS, key, table, delta, message, len) {
             pads::sender_pads(r.last as u64, r.blocks as usize, table, delta, pads);
             let record = rules::without_batch(r);
             Stepped { answer, record }

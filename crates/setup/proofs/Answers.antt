@@ -1,13 +1,18 @@
 -- When a setup is done. Assumes nothing.
-use mathlib.Core.Path.{_≡_, refl}
+use mathlib.Core.Path.{_≡_, refl, sym, _∙_, subst}
 use mathlib.Core.Bool.{true}
-use Prim.Native.Nat.{ℕ}
+use Prim.Native.Nat.{ℕ, _*_, _≤_}
+use native.Mathlib.Nat.{mul-comm}
+use native.Mathlib.Omega.{arith}
 use borrow.Author.Tests.{eq-eqb, eqb-true}
 use Rattle.answer.specs.declared.Answer.the-variants.{Done}
 use Rattle.answer.specs.Answer.{isDone, firstOf}
 use Rattle.answer.proofs.Order.{all-hold, done-when}
-use Rattle.sizes.specs.Sizes.{widthAllowed, deltaLength, rootsLength, receiverBasePadsLength, senderBasePadsLength, setupMessageLength, siblingsLength}
+use Rattle.sizes.specs.Sizes.{widthAllowed, treesOf, deltaLength, rootsLength, receiverBasePadsLength, senderBasePadsLength, setupMessageLength, siblingsLength}
 use Rattle.rules.specs.Orders.{receiverSetupOrder, senderSetupOrder}
+use Rattle.sizes.proofs.Widths.{width-fits}
+use Rattle.tree.specs.Sides.{TreesFit}
+use Rattle.tree.proofs.TreesFit.{trees-fit}
 
 -- the width is allowed and each range has its length
 abbrev pub ReceiverFits : ℕ → ℕ → ℕ → ℕ → Type 0
@@ -38,3 +43,25 @@ pub sender-done : (k delta pads message siblings : ℕ) → SenderFits k delta p
 sender-done k delta pads message siblings f =
     done-when (senderSetupOrder k delta pads message siblings)
     (f .0, (eq-eqb _ _ (f .1), (eq-eqb _ _ (f .2), (eq-eqb _ _ (f .3), (eq-eqb _ _ (f .4), tt)))))
+
+-- what the work on n trees then asks
+
+abbrev pub ReceiverWork : ℕ → ℕ → ℕ → ℕ → ℕ → Type 0
+ReceiverWork n k roots pads message = TreesFit n k × (roots ≡ n * 32) × (pads ≡ n * (64 * k)) × (message ≡ n * (64 * k))
+
+pub receiver-work : (n k roots pads message : ℕ) → n ≡ treesOf k → ReceiverFits k roots pads message → ReceiverWork n k roots pads message
+receiver-work n k roots pads message e f =
+    let w = width-fits k (f .0) in
+    subst (λ (m : ℕ). ReceiverWork m k roots pads message) (sym e)
+    (trees-fit k (f .0), f .1 ∙ mul-comm 32 (treesOf k), f .2 ∙ sym (w .pairs), f .3 ∙ sym (w .pairs))
+
+abbrev pub SenderWork : ℕ → ℕ → ℕ → ℕ → ℕ → ℕ → Type 0
+SenderWork n k delta pads message siblings =
+    TreesFit n k × (n * k ≤ 8 * delta) × (pads ≡ n * (32 * k)) × (message ≡ n * (64 * k)) × (siblings ≡ n * (32 * k))
+
+pub sender-work : (n k delta pads message siblings : ℕ) → n ≡ treesOf k → SenderFits k delta pads message siblings
+    → SenderWork n k delta pads message siblings
+sender-work n k delta pads message siblings e f =
+    let w = width-fits k (f .0) in
+    subst (λ (m : ℕ). SenderWork m k delta pads message siblings) (sym e)
+    (trees-fit k (f .0), omega (arith, f .1, w .columns), f .2 ∙ sym (w .single), f .3 ∙ sym (w .pairs), f .4 ∙ sym (w .single))

@@ -1,9 +1,8 @@
 -- The siblings of all trees: the base transfers in turn, taken by trees. Assumes nothing.
 use mathlib.Core.Path.{_≡_, sym, ap, ap₂, _∙_}
-use mathlib.Core.Bool.{true}
 use mathlib.Core.List.{List}
 use Prim.Native.Nat.{ℕ, _+_, _-_, _*_, _<_}
-use native.Mathlib.Nat.{mul-comm, mul-assoc}
+use native.Mathlib.Nat.{mul-comm, mul-assoc, mul-left-comm}
 use native.Mathlib.Omega.{arith}
 use lib.Arith.{digits-div, digits-mod}
 use lib.Bits.{bitXor, xor-zero-r}
@@ -13,13 +12,11 @@ use Rattle.words.specs.Bytes.{tabulate, part, concat}
 use Rattle.words.specs.Xor.{sumTo}
 use Rattle.words.proofs.Lists.{tabulate-length, tabulate-at, tabulate-same}
 use Rattle.words.proofs.Concat.{place-fits, part-at, concat-same, concat-parts, group-part}
-use Rattle.sizes.specs.Sizes.{widthAllowed, columns, treesOf}
 use Rattle.tree.specs.Layout.{deltaOf, treePart}
 use Rattle.tree.specs.Path.{sideOf}
 use Rattle.setup.specs.Setup.{unmasked, nextNode, nodesFound, treeSiblings, siblingsOf}
 use Rattle.tree.specs.Sides.{sidesOf}
 use Rattle.setup.specs.Found.{foundIn}
-use Rattle.sizes.proofs.Widths.{width-fits}
 use Rattle.tree.proofs.Sides.{side-lt, sides-at}
 use Rattle.setup.proofs.Levels.{levelOf, unmasked-length, found-same}
 
@@ -34,28 +31,28 @@ found-first side totals k one long =
     ∙ xor-zero-r (getD totals (32 * 0 + j) 0)
     ∙ ap (λ (i : ℕ). getD totals i 0) (omega arith))
 
-module _ (k : ℕ) (allowed : widthAllowed k ≡ true) (delta message pads : List ℕ) where
+module _ (n k : ℕ) (delta message pads : List ℕ) where
   -- the unmasked totals of all base transfers
   abbrev pub allUnmasked : List ℕ
-  allUnmasked = unmasked columns (λ c. getD (sidesOf k delta) c 0) message pads
+  allUnmasked = unmasked (n * k) (λ c. getD (sidesOf (n * k) k delta) c 0) message pads
 
-  side-in : (i l : ℕ) → i < treesOf k → l < k → getD (sidesOf k delta) (i * k + l) 0 ≡ sideOf k (deltaOf k delta i) l
+  side-in : (i l : ℕ) → i < n → l < k → getD (sidesOf (n * k) k delta) (i * k + l) 0 ≡ sideOf k (deltaOf k delta i) l
   side-in i l hi hl =
-      sides-at k delta (i * k + l)
-      (omega (arith, place-fits i (treesOf k) k hi, width-fits k allowed .columns))
+      sides-at (n * k) k delta (i * k + l)
+      (omega (arith, place-fits i n k hi))
       ∙ ap₂ (λ (t l : ℕ). sideOf k (deltaOf k delta t) l) (digits-div i hl) (digits-mod i hl)
 
   -- tree i's part of the unmasked totals
-  tree-unmasked : (i : ℕ) → i < treesOf k
+  tree-unmasked : (i : ℕ) → i < n
       → treePart k 32 i allUnmasked ≡ unmasked k (sideOf k (deltaOf k delta i)) (treePart k 64 i message) (treePart k 32 i pads)
   unfolding unmasked
   tree-unmasked i hi =
-      ap₂ (λ (m n : ℕ). part (i * m) m (concat n levels)) (mul-comm 32 k) (sym (width-fits k allowed .columns))
-      ∙ group-part levels 32 (treesOf k) k (λ c. tabulate-length 32 _) i hi
+      ap (λ (m : ℕ). part (i * m) m (concat (n * k) levels)) (mul-comm 32 k)
+      ∙ group-part levels 32 n k (λ c. tabulate-length 32 _) i hi
       ∙ concat-same k (λ l. levels (i * k + l)) (levelOf side (treePart k 64 i message) (treePart k 32 i pads)) (λ l hl. level l hl)
     where
       levels : ℕ → List ℕ
-      levels = levelOf (λ c. getD (sidesOf k delta) c 0) message pads
+      levels = levelOf (λ c. getD (sidesOf (n * k) k delta) c 0) message pads
 
       side : ℕ → ℕ
       side = sideOf k (deltaOf k delta i)
@@ -76,27 +73,27 @@ module _ (k : ℕ) (allowed : widthAllowed k ≡ true) (delta message pads : Lis
           (ap (λ (x : ℕ). getD pads x 0) place₂ ∙ sym (part-at (i * (32 * k)) (32 * k) pads (32 * l + j) (omega arith))))
 
   -- each tree's nodes, from its part
-  pub siblings-found : foundIn k (treesOf k) (sidesOf k delta) allUnmasked ≡ siblingsOf k delta pads message
+  pub siblings-found : foundIn k n (sidesOf (n * k) k delta) allUnmasked ≡ siblingsOf n k delta pads message
   unfolding siblingsOf
   siblings-found =
-      concat-same (treesOf k) (λ i. nodesFound (λ l. getD (sidesOf k delta) (i * k + l) 0) (treePart k 32 i allUnmasked) k)
+      concat-same (n) (λ i. nodesFound (λ l. getD (sidesOf (n * k) k delta) (i * k + l) 0) (treePart k 32 i allUnmasked) k)
       (λ i. treeSiblings k (sideOf k (deltaOf k delta i)) (treePart k 64 i message) (treePart k 32 i pads))
       (λ i hi.
-      found-same (λ l. getD (sidesOf k delta) (i * k + l) 0) (sideOf k (deltaOf k delta i)) (treePart k 32 i allUnmasked) k (λ l hl. side-in i l hi hl)
+      found-same (λ l. getD (sidesOf (n * k) k delta) (i * k + l) 0) (sideOf k (deltaOf k delta i)) (treePart k 32 i allUnmasked) k (λ l hl. side-in i l hi hl)
       ∙ ap (λ (z : List ℕ). nodesFound (sideOf k (deltaOf k delta i)) z k) (tree-unmasked i hi))
 
   -- and where a tree has one level, the unmasked totals themselves
-  pub siblings-first : k ≡ 1 → allUnmasked ≡ siblingsOf k delta pads message
+  pub siblings-first : k ≡ 1 → allUnmasked ≡ siblingsOf n k delta pads message
   unfolding siblingsOf
   siblings-first one =
-      sym (take-all (treesOf k * (32 * k)) allUnmasked (omega (arith, long, width-fits k allowed .single)))
-      ∙ sym (concat-parts (32 * k) (treesOf k) allUnmasked)
-      ∙ concat-same (treesOf k) (λ i. treePart k 32 i allUnmasked)
+      sym (take-all (n * (32 * k)) allUnmasked (omega (arith, long, mul-left-comm n 32 k)))
+      ∙ sym (concat-parts (32 * k) (n) allUnmasked)
+      ∙ concat-same (n) (λ i. treePart k 32 i allUnmasked)
       (λ i. treeSiblings k (sideOf k (deltaOf k delta i)) (treePart k 64 i message) (treePart k 32 i pads))
       (λ i hi. tree-unmasked i hi ∙ sym (found-first (sideOf k (deltaOf k delta i)) _ k one (size i)))
     where
-      long : length allUnmasked ≡ 4096
-      long = unmasked-length columns (λ c. getD (sidesOf k delta) c 0) message pads
+      long : length allUnmasked ≡ n * k * 32
+      long = unmasked-length (n * k) (λ c. getD (sidesOf (n * k) k delta) c 0) message pads
 
       turn : k * 32 ≡ 32
       turn = omega arith

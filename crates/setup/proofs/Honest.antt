@@ -140,57 +140,57 @@ honest-tree k d root pads h =
 
 -- ---- all trees
 
-fits : (k : ℕ) (pads : List ℕ) → treesOf k * (64 * k) ≤ length pads → (i : ℕ) → i < treesOf k → 64 * k ≤ length (treePart k 64 i pads)
-fits k pads long i h =
-    let room : i * (64 * k) + 64 * k ≤ treesOf k * (64 * k) = place-fits i (treesOf k) (64 * k) h in
+fits : (n k : ℕ) (pads : List ℕ) → n * (64 * k) ≤ length pads → (i : ℕ) → i < n → 64 * k ≤ length (treePart k 64 i pads)
+fits n k pads long i h =
+    let room : i * (64 * k) + 64 * k ≤ n * (64 * k) = place-fits i (n) (64 * k) h in
     omega (arith, part-length (i * (64 * k)) (64 * k) pads (omega arith))
 
 -- tree i's part of the message
-pub message-part : (k : ℕ) (roots pads : List ℕ) (i : ℕ) → i < treesOf k
-    → treePart k 64 i (messageOf k roots pads) ≡ treeMessage k (rootOf roots i) (treePart k 64 i pads)
+pub message-part : (n k : ℕ) (roots pads : List ℕ) (i : ℕ) → i < n
+    → treePart k 64 i (messageOf n k roots pads) ≡ treeMessage k (rootOf roots i) (treePart k 64 i pads)
 unfolding messageOf
-message-part k roots pads =
-    concat-part (λ i. treeMessage k (rootOf roots i) (treePart k 64 i pads)) (64 * k) (treesOf k)
+message-part n k roots pads =
+    concat-part (λ i. treeMessage k (rootOf roots i) (treePart k 64 i pads)) (64 * k) (n)
     (λ i h. message-length k (rootOf roots i) (treePart k 64 i pads))
 
-pub messageOf-length : (k : ℕ) (roots pads : List ℕ) → length (messageOf k roots pads) ≡ treesOf k * (64 * k)
+pub messageOf-length : (n k : ℕ) (roots pads : List ℕ) → length (messageOf n k roots pads) ≡ n * (64 * k)
 unfolding messageOf
-messageOf-length k roots pads =
-    concat-length (λ i. treeMessage k (rootOf roots i) (treePart k 64 i pads)) (64 * k) (treesOf k)
+messageOf-length n k roots pads =
+    concat-length (λ i. treeMessage k (rootOf roots i) (treePart k 64 i pads)) (64 * k) (n)
     (λ i h. message-length k (rootOf roots i) (treePart k 64 i pads))
 
 -- and of the sender's pads
-module _ (k : ℕ) (delta pads : List ℕ) (long : treesOf k * (64 * k) ≤ length pads) where
+module _ (n k : ℕ) (delta pads : List ℕ) (long : n * (64 * k) ≤ length pads) where
   treePads : ℕ → List ℕ
   treePads i = concat k (pad k (deltaOf k delta i) (treePart k 64 i pads))
 
-  treePads-length : (i : ℕ) → i < treesOf k → length (treePads i) ≡ 32 * k
+  treePads-length : (i : ℕ) → i < n → length (treePads i) ≡ 32 * k
   unfolding treePads
   treePads-length i h =
       concat-length (pad k (deltaOf k delta i) (treePart k 64 i pads)) 32 k
-      (pad-length k (deltaOf k delta i) (treePart k 64 i pads) (fits k pads long i h))
+      (pad-length k (deltaOf k delta i) (treePart k 64 i pads) (fits n k pads long i h))
       ∙ mul-comm k 32
 
-  pads-part : (i : ℕ) → i < treesOf k → treePart k 32 i (senderBasePads k delta pads) ≡ concat k (pad k (deltaOf k delta i) (treePart k 64 i pads))
+  pads-part : (i : ℕ) → i < n → treePart k 32 i (senderBasePads n k delta pads) ≡ concat k (pad k (deltaOf k delta i) (treePart k 64 i pads))
   unfolding senderBasePads pad treePads
-  pads-part = concat-part treePads (32 * k) (treesOf k) treePads-length
+  pads-part = concat-part treePads (32 * k) (n) treePads-length
 
-  pub senderBasePads-length : length (senderBasePads k delta pads) ≡ treesOf k * (32 * k)
+  pub senderBasePads-length : length (senderBasePads n k delta pads) ≡ n * (32 * k)
   unfolding senderBasePads pad treePads
-  senderBasePads-length = concat-length treePads (32 * k) (treesOf k) treePads-length
+  senderBasePads-length = concat-length treePads (32 * k) (n) treePads-length
 
 -- the sender, given the receiver's message and, for each base transfer, the receiver's pad numbered 1 minus the path bit, gets the
 -- nodes beside its paths in the receiver's trees
-pub honest-setup : (k : ℕ) (delta roots pads : List ℕ) → treesOf k * (64 * k) ≤ length pads
-    → siblingsOf k delta (senderBasePads k delta pads) (messageOf k roots pads) ≡ besidePaths k delta roots
+pub honest-setup : (n k : ℕ) (delta roots pads : List ℕ) → n * (64 * k) ≤ length pads
+    → siblingsOf n k delta (senderBasePads n k delta pads) (messageOf n k roots pads) ≡ besidePaths n k delta roots
 unfolding siblingsOf besidePaths pad
-honest-setup k delta roots pads long =
-    concat-same (treesOf k)
-    (λ i. treeSiblings k (side i) (treePart k 64 i (messageOf k roots pads)) (treePart k 32 i (senderBasePads k delta pads)))
+honest-setup n k delta roots pads long =
+    concat-same (n)
+    (λ i. treeSiblings k (side i) (treePart k 64 i (messageOf n k roots pads)) (treePart k 32 i (senderBasePads n k delta pads)))
     (λ i. concat k (siblingNode k (rootOf roots i) (deltaOf k delta i)))
     (λ i h.
-    ap₂ (treeSiblings k (side i)) (message-part k roots pads i h) (pads-part k delta pads long i h)
-    ∙ honest-tree k (deltaOf k delta i) (rootOf roots i) (treePart k 64 i pads) (fits k pads long i h))
+    ap₂ (treeSiblings k (side i)) (message-part n k roots pads i h) (pads-part n k delta pads long i h)
+    ∙ honest-tree k (deltaOf k delta i) (rootOf roots i) (treePart k 64 i pads) (fits n k pads long i h))
   where
     side : ℕ → ℕ → ℕ
     side i = sideOf k (deltaOf k delta i)
@@ -203,10 +203,10 @@ pads-enough k =
     omega (arith, div-mul-le-self 128 k)
 
 -- the nodes beside the paths, all trees' together
-pub besidePaths-length : (k : ℕ) (delta roots : List ℕ) → length (besidePaths k delta roots) ≡ treesOf k * (32 * k)
+pub besidePaths-length : (n k : ℕ) (delta roots : List ℕ) → length (besidePaths n k delta roots) ≡ n * (32 * k)
 unfolding besidePaths
-besidePaths-length k delta roots =
-    concat-length _ (32 * k) (treesOf k)
+besidePaths-length n k delta roots =
+    concat-length _ (32 * k) (n)
     (λ i h.
     concat-length (siblingNode k (rootOf roots i) (deltaOf k delta i)) 32 k (λ l h. sibling-length k (rootOf roots i) (deltaOf k delta i) l)
     ∙ mul-comm k 32)

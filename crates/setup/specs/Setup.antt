@@ -1,4 +1,5 @@
--- Both setups of paper 01, 'Trees and streams': the receiver's message and the sender's siblings, for any inputs. Assumes nothing.
+-- Both setups of paper 01, 'Trees and streams': the receiver's message and the sender's siblings, for any inputs, of n trees of k levels.
+-- Assumes nothing.
 use mathlib.Core.Path.{_≡_}
 use mathlib.Core.List.{List, [], _++_}
 use Prim.Native.Nat.{ℕ, zero, suc, _+_, _-_, _*_}
@@ -20,8 +21,8 @@ unfoldable pub treeMessage : (k : ℕ) (root pads : List ℕ) → List ℕ
 treeMessage k root pads = concat k (λ l. concat 2 (λ s. xorList (totalOf root l s) (part (64 * l + 32 * s) 32 pads)))
 
 -- and that of all trees stands in tree order, so in base-transfer order
-unfoldable pub messageOf : (k : ℕ) (roots pads : List ℕ) → List ℕ
-messageOf k roots pads = concat (treesOf k) (λ i. treeMessage k (rootOf roots i) (treePart k 64 i pads))
+unfoldable pub messageOf : (n k : ℕ) (roots pads : List ℕ) → List ℕ
+messageOf n k roots pads = concat n (λ i. treeMessage k (rootOf roots i) (treePart k 64 i pads))
 
 -- ---- the sender, from any message and any pads
 
@@ -47,29 +48,29 @@ abbrev pub treeSiblings : (k : ℕ) (side : ℕ → ℕ) (message pads : List �
 treeSiblings k side message pads = nodesFound side (unmasked k side message pads) k
 
 -- the kept table (siblings) has these nodes in base-transfer order
-unfoldable pub siblingsOf : (k : ℕ) (delta pads message : List ℕ) → List ℕ
-siblingsOf k delta pads message =
-    concat (treesOf k) (λ i. treeSiblings k (sideOf k (deltaOf k delta i)) (treePart k 64 i message) (treePart k 32 i pads))
+unfoldable pub siblingsOf : (n k : ℕ) (delta pads message : List ℕ) → List ℕ
+siblingsOf n k delta pads message =
+    concat n (λ i. treeSiblings k (sideOf k (deltaOf k delta i)) (treePart k 64 i message) (treePart k 32 i pads))
 
 -- ---- what an honest setup has
 
 -- of each base transfer's two pads, pad 0 before pad 1, the one that the sender has
-unfoldable pub senderBasePads : (k : ℕ) (delta pads : List ℕ) → List ℕ
-senderBasePads k delta pads =
-    concat (treesOf k) (λ i. concat k (λ l. part (64 * l + 32 * sideOf k (deltaOf k delta i) l) 32 (treePart k 64 i pads)))
+unfoldable pub senderBasePads : (n k : ℕ) (delta pads : List ℕ) → List ℕ
+senderBasePads n k delta pads =
+    concat n (λ i. concat k (λ l. part (64 * l + 32 * sideOf k (deltaOf k delta i) l) 32 (treePart k 64 i pads)))
 
 -- the nodes beside the paths of the receiver's trees, in base-transfer order
-unfoldable pub besidePaths : (k : ℕ) (delta roots : List ℕ) → List ℕ
-besidePaths k delta roots = concat (treesOf k) (λ i. concat k (siblingNode k (rootOf roots i) (deltaOf k delta i)))
+unfoldable pub besidePaths : (n k : ℕ) (delta roots : List ℕ) → List ℕ
+besidePaths n k delta roots = concat n (λ i. concat k (siblingNode k (rootOf roots i) (deltaOf k delta i)))
 
--- ---- the steps' promises: 'Steps and their turning away'
+-- ---- the steps' promises: 'Steps and their turning away'. At width k there are n = 128/k trees
 
 -- all that the receiver's setup promises, whatever it is given: its answer, and what the message then holds
 pub record ReceiverSetup (width : ℕ) (roots pads message : List ℕ) (answer : Answer) (message′ : List ℕ) : Type 0 where
   pub answered : answer ≡ firstOf (receiverSetupOrder width (length roots) (length pads) (length message))
-  pub written : message′ ≡ whenDone answer (messageOf width roots pads) message
+  pub written : message′ ≡ whenDone answer (messageOf (treesOf width) width roots pads) message
 
 -- all that the sender's setup promises, whatever it is given: its answer, and what the siblings then hold
 pub record SenderSetup (width : ℕ) (delta pads message siblings : List ℕ) (answer : Answer) (siblings′ : List ℕ) : Type 0 where
   pub answered : answer ≡ firstOf (senderSetupOrder width (length delta) (length pads) (length message) (length siblings))
-  pub written : siblings′ ≡ whenDone answer (siblingsOf width delta pads message) siblings
+  pub written : siblings′ ≡ whenDone answer (siblingsOf (treesOf width) width delta pads message) siblings

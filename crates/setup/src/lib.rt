@@ -11,7 +11,8 @@ pub fn receiver_setup(width: u32, roots: &[u8], base_pads: &[u8], message: &mut 
 {
     let answer = orders::receiver_setup(width, roots.len(), base_pads.len(), message.len());
     if answer::is_done(answer) {
-        receiver::write_message(width as usize, roots, base_pads, message);
+        let n = sizes::trees_of(width);
+        receiver::write_message(n, width as usize, roots, base_pads, message);
     }
     answer
 }
@@ -34,7 +35,8 @@ pub fn sender_setup(
         siblings.len(),
     );
     if answer::is_done(answer) {
-        sender::find_siblings(width as usize, delta, base_pads, message, siblings);
+        let n = sizes::trees_of(width);
+        sender::find_siblings(n, width as usize, delta, base_pads, message, siblings);
     }
     answer
 }

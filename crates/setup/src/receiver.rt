@@ -1,11 +1,10 @@
 // The receiver's message, four trees at a time.
 ghost use mathlib.Core.Path.{_≡_};
-ghost use mathlib.Core.Bool.{true};
 ghost use Prim.Native.Nat.{_*_, _≤_};
 ghost use lib.ListN.{length};
 ghost use Rattle.words.specs.Bytes.{concat};
-ghost use Rattle.sizes.specs.Sizes.{widthAllowed, rootsLength, receiverBasePadsLength, setupMessageLength};
 ghost use Rattle.tree.specs.Layout.{rootOf, treePart};
+ghost use Rattle.tree.specs.Sides.{TreesFit};
 ghost use Rattle.setup.specs.Setup.{treeMessage, messageOf};
 
 // The messages of four trees of k levels, from their roots and base pads.
@@ -22,12 +21,11 @@ fn four_messages(k: usize, roots: &[u8], pads: &[u8], message: &mut [u8])
     words::xor_into(message, pads);
 }
 
-// The message of all trees.
-pub fn write_message(k: usize, roots: &[u8], pads: &[u8], message: &mut [u8])
-    requires { ⌜ (widthAllowed k ≡ true) × (length (now roots) ≡ rootsLength k) × (length (now pads) ≡ receiverBasePadsLength) × (length (now message) ≡ setupMessageLength) ⌝ }
-    ensures { λ _. ⌜ now (message .exit) ≡ messageOf k (now (roots .entry)) (now (pads .entry)) ⌝ }
+// The message of n trees of k levels.
+pub fn write_message(n: usize, k: usize, roots: &[u8], pads: &[u8], message: &mut [u8])
+    requires { ⌜ TreesFit n k × (length (now roots) ≡ n * 32) × (length (now pads) ≡ n * (64 * k)) × (length (now message) ≡ n * (64 * k)) ⌝ }
+    ensures { λ _. ⌜ now (message .exit) ≡ messageOf n k (now (roots .entry)) (now (pads .entry)) ⌝ }
 {
-    let n = 128 / k;
     let size = 64 * k;
     let mut i = 0;
     while i < n {

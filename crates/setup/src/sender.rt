@@ -1,15 +1,15 @@
 // The sender's siblings. Delta enters as a side for each base transfer, and a side as a mask: never a branch or an address.
 ghost use mathlib.Core.Path.{_≡_};
-ghost use mathlib.Core.Bool.{true};
+ghost use mathlib.Core.List.{List};
 ghost use Prim.Native.Nat.{ℕ, _+_, _-_, _*_, _/_, _%_, _^_, _≤_, _<_};
 ghost use lib.ListN.{length, getD};
 ghost use Rattle.words.specs.Bytes.{tabulate, part};
 ghost use Rattle.words.specs.Lanes.{laneBytes};
 ghost use Rattle.words.specs.Xor.{_⊕_, xorEach, xorPart};
 ghost use Rattle.tree.specs.Lanes.{totalWord};
-ghost use Rattle.sizes.specs.Sizes.{widthAllowed, columns, treesOf, deltaLength, senderBasePadsLength, setupMessageLength, siblingsLength};
+ghost use Rattle.sizes.specs.Sizes.{columns};
 ghost use Rattle.setup.specs.Setup.{unmasked, nodesFound, siblingsOf};
-ghost use Rattle.tree.specs.Sides.{Sides};
+ghost use Rattle.tree.specs.Sides.{sidesOf, Sides, TreesFit};
 ghost use Rattle.setup.specs.Found.{foundIn};
 
 // Fills out with one side's total of two, unmasked by a pad.
@@ -26,14 +26,14 @@ fn unmask(out: &mut [u8], totals: &[u8], pad: &[u8], side: u8)
     }
 }
 
-// The unmasked totals of all base transfers.
+// The unmasked totals of all base transfers, of which each has a side.
 fn unmask_all(sides: &[u8], pads: &[u8], message: &[u8], siblings: &mut [u8])
-    requires { ⌜ (length (now sides) ≡ 128) × Sides (now sides) ⌝ }
-    requires { ⌜ (length (now pads) ≡ senderBasePadsLength) × (length (now message) ≡ setupMessageLength) × (length (now siblings) ≡ siblingsLength) ⌝ }
-    ensures { λ _. ⌜ now (siblings .exit) ≡ unmasked columns (λ c. getD (now (sides .entry)) c 0) (now (message .entry)) (now (pads .entry)) ⌝ }
+    requires { ⌜ (length (now sides) ≤ columns) × Sides (now sides) ⌝ }
+    requires { ⌜ (length (now pads) ≡ 32 * length (now sides)) × (length (now message) ≡ 64 * length (now sides)) × (length (now siblings) ≡ 32 * length (now sides)) ⌝ }
+    ensures { λ _. ⌜ now (siblings .exit) ≡ unmasked (length (now (sides .entry))) (λ c. getD (now (sides .entry)) c 0) (now (message .entry)) (now (pads .entry)) ⌝ }
 {
     let mut c = 0;
-    while c < 128 {
+    while c < sides.len() {
         let start = 32 * c;
         let end = start + 32;
         let from = 64 * c;
@@ -120,12 +120,11 @@ fn four_trees(k: usize, sides: &[u8], siblings: &mut [u8])
     four_in_lanes(k, sides, siblings, &mut t[0..m], &mut s[0..n]);
 }
 
-// The siblings of all trees, in the place of their unmasked totals.
-fn all_trees(k: usize, sides: &[u8], siblings: &mut [u8])
-    requires { ⌜ (widthAllowed k ≡ true) × (length (now sides) ≡ 128) × Sides (now sides) × (length (now siblings) ≡ siblingsLength) ⌝ }
-    ensures { λ _. ⌜ now (siblings .exit) ≡ foundIn k (treesOf k) (now (sides .entry)) (now (siblings .entry)) ⌝ }
+// The siblings of n trees of k levels, in the place of their unmasked totals.
+fn all_trees(n: usize, k: usize, sides: &[u8], siblings: &mut [u8])
+    requires { ⌜ TreesFit n k × (length (now sides) ≡ n * k) × Sides (now sides) × (length (now siblings) ≡ n * (32 * k)) ⌝ }
+    ensures { λ _. ⌜ now (siblings .exit) ≡ foundIn k n (now (sides .entry)) (now (siblings .entry)) ⌝ }
 {
-    let n = 128 / k;
     let size = 32 * k;
     let mut i = 0;
     while i < n {
@@ -139,15 +138,32 @@ fn all_trees(k: usize, sides: &[u8], siblings: &mut [u8])
     }
 }
 
-// The siblings of all trees, from the pads that the sender has and a message.
-pub fn find_siblings(k: usize, delta: &[u8], pads: &[u8], message: &[u8], siblings: &mut [u8])
-    requires { ⌜ (widthAllowed k ≡ true) × (length (now delta) ≡ deltaLength) × (length (now pads) ≡ senderBasePadsLength) × (length (now message) ≡ setupMessageLength) × (length (now siblings) ≡ siblingsLength) ⌝ }
-    ensures { λ _. ⌜ now (siblings .exit) ≡ siblingsOf k (now (delta .entry)) (now (pads .entry)) (now (message .entry)) ⌝ }
+// The siblings of all trees, from a side for each base transfer, the pads that the sender has and a message.
+fn find_by_sides(n: usize, k: usize, sides: &[u8], pads: &[u8], message: &[u8], siblings: &mut [u8])
+    requires { ⌜ TreesFit n k × (length (now sides) ≡ n * k) × Sides (now sides) × (length (now pads) ≡ n * (32 * k)) × (length (now message) ≡ n * (64 * k)) × (length (now siblings) ≡ n * (32 * k)) ⌝ }
+    ensures { λ _. ⌜ ((delta : List ℕ) → now (sides .entry) ≡ sidesOf (n * k) k delta → now (siblings .exit) ≡ siblingsOf n k delta (now (pads .entry)) (now (message .entry))) ⌝ }
 {
-    let side = tree::side::all(k, delta);
-    unmask_all(&side, pads, message, siblings);
+    unmask_all(sides, pads, message, siblings);
     // where a tree has one level there is nothing to take off
     if k > 1 {
-        all_trees(k, &side, siblings);
+        all_trees(n, k, sides, siblings);
     }
+}
+
+// The same, from delta.
+pub fn find_siblings(
+    n: usize,
+    k: usize,
+    delta: &[u8],
+    pads: &[u8],
+    message: &[u8],
+    siblings: &mut [u8],
+)
+    requires { ⌜ TreesFit n k × (n * k ≤ 8 * length (now delta)) × (length (now pads) ≡ n * (32 * k)) × (length (now message) ≡ n * (64 * k)) × (length (now siblings) ≡ n * (32 * k)) ⌝ }
+    ensures { λ _. ⌜ now (siblings .exit) ≡ siblingsOf n k (now (delta .entry)) (now (pads .entry)) (now (message .entry)) ⌝ }
+{
+    let transfers = n * k;
+    let mut sides = [0u8; 128];
+    tree::side::all(k, delta, &mut sides[0..transfers]);
+    find_by_sides(n, k, &sides[0..transfers], pads, message, siblings);
 }

@@ -1,8 +1,7 @@
 -- What the four widths have in common. Assumes nothing.
 use mathlib.Core.Path.{_≡_, refl, sym, subst}
 use mathlib.Core.Bool.{Bool, true, false, _||_}
-use Prim.Native.Nat.{ℕ, _+_, _*_, _%_, _≤_, _<_}
-use native.Mathlib.Nat.{mul-le-mul-right, add-mul}
+use Prim.Native.Nat.{ℕ, _*_, _%_, _≤_, _<_}
 use native.Mathlib.Omega.{arith}
 use lib.Dec.{eqb}
 use borrow.Author.Tests.{eqb-true}
@@ -38,10 +37,3 @@ width-fits =
     (record { some = omega arith; low = omega arith; trees = omega arith; fours = refl; columns = refl; pairs = refl; single = refl })
     (record { some = omega arith; low = omega arith; trees = omega arith; fours = refl; columns = refl; pairs = refl; single = refl })
     (record { some = omega arith; low = omega arith; trees = omega arith; fours = refl; columns = refl; pairs = refl; single = refl })
-
--- four trees from tree i on, where a range has m elements for each tree
-pub four-fit : (k i : ℕ) → Fits k → i % 4 ≡ 0 → i < treesOf k → (m : ℕ)
-    → (i + 4 ≤ treesOf k) × ((i + 4) * m ≡ i * m + 4 * m) × ((i + 4) * m ≤ treesOf k * m)
-four-fit k i f h lt m =
-    let next : i + 4 ≤ treesOf k = omega (arith, f .fours) in
-    (next, add-mul i 4 m, mul-le-mul-right m next)

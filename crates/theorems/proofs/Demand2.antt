@@ -19,10 +19,12 @@ use Rattle.answer.specs.declared.Answer.{Answer}
 use Rattle.answer.specs.declared.Answer.the-variants.{Done, Check}
 use Rattle.answer.specs.Answer.{whenDone, Order}
 use Rattle.answer.proofs.Order.{AllHold, hold-more, done-when, last-decides}
-use Rattle.sizes.specs.Sizes.{widthAllowed, columns, columnLength, deltaLength, rootsLength, siblingsLength, tableLength, correctionLength, checkMessageLength, receiverPadsLength, senderPadsLength}
+use Rattle.sizes.specs.Sizes.{widthAllowed, columns, treesOf, columnLength, deltaLength, rootsLength, siblingsLength, tableLength, correctionLength, checkMessageLength, receiverPadsLength, senderPadsLength}
 use Rattle.sizes.proofs.Widths.{Fits, width-fits}
+use Rattle.tree.specs.Tree.{streamByte}
+use Rattle.tree.proofs.Streams.{stream-lt}
 use Rattle.setup.specs.Setup.{senderBasePads, besidePaths, ReceiverSetup, SenderSetup}
-use Rattle.columns.specs.Columns.{choicesOf, receiverTable, correctionOf, senderTable}
+use Rattle.columns.specs.Columns.{choicesOf, receiverTable, correctionOf, treeCorrection, senderTable}
 use Rattle.columns.proofs.Tables.{uOf-length, correctionOf-length, receiverTable-length, senderTable-length}
 use Rattle.pads.specs.Pads.{rowOf, padOf, receiverPads, senderPads}
 use Rattle.pads.proofs.Inputs.{pad-length}
@@ -32,13 +34,13 @@ use Rattle.rules.specs.declared.Record.{Record}
 use Rattle.rules.specs.Orders.{stageReady, stageOpen, withBatch, withoutBatch, has, mayOpen, mayEnd, beforeCheck}
 use Rattle.rules.proofs.Allowed.{blocks-allowed, batch-follows}
 use Rattle.session.specs.Steps.{SenderCorrect}
-use Rattle.theorems.specs.Errors.{Sent}
+use Rattle.errors.specs.Errors.{Sent}
 use Rattle.theorems.specs.Demand2.{Ready, HonestBatch, ended, Demand2}
 use Rattle.theorems.specs.Demand3.{Run, Accepts, Closes}
 use Rattle.theorems.proofs.Setup.{siblings-are, both-done}
 use Rattle.theorems.proofs.Batch.{honest-rows}
 use Rattle.columns.proofs.Bounds.{correctionOf-bytes}
-use Rattle.theorems.proofs.NoErrors.{all-meet}
+use Rattle.errors.proofs.NoErrors.{all-meet}
 use Rattle.theorems.proofs.Demand3.{demand3}
 use Rattle.setup.proofs.Honest.{besidePaths-length}
 
@@ -46,20 +48,20 @@ use Rattle.setup.proofs.Honest.{besidePaths-length}
 
 -- the receiver's pad of a row
 pub own-pad : (blocks batch j : ℕ) (table : List ℕ) → j < 64 * blocks
-    → part (32 * j) 32 (receiverPads blocks batch table) ≡ padOf batch j (rowOf (columnLength blocks) table j)
+    → part (32 * j) 32 (receiverPads columns blocks batch table) ≡ padOf batch j (rowOf columns (columnLength blocks) table j)
 unfolding receiverPads
 own-pad blocks batch j table lt =
-    ap (λ (a : ℕ). part a 32 (receiverPads blocks batch table)) (mul-comm 32 j)
-    ∙ concat-part (λ j. padOf batch j (rowOf (columnLength blocks) table j)) 32 (64 * blocks) (λ j h. pad-length batch j _) j lt
+    ap (λ (a : ℕ). part a 32 (receiverPads columns blocks batch table)) (mul-comm 32 j)
+    ∙ concat-part (λ j. padOf batch j (rowOf columns (columnLength blocks) table j)) 32 (64 * blocks) (λ j h. pad-length batch j _) j lt
 
 -- the sender's pad numbered x of a row: x times delta is added to the row
 pub given-pad : (blocks batch j x : ℕ) (table delta : List ℕ) → j < 64 * blocks → x < 2
-    → part (64 * j + 32 * x) 32 (senderPads blocks batch table delta) ≡ padOf batch j (xorList (rowOf (columnLength blocks) table j) (scale x delta))
+    → part (64 * j + 32 * x) 32 (senderPads columns blocks batch table delta) ≡ padOf batch j (xorList (rowOf columns (columnLength blocks) table j) (scale x delta))
 unfolding senderPads
 given-pad blocks batch j x table delta lt hx =
-    sym (part-part (32 * x) 32 (64 * j) 64 (senderPads blocks batch table delta) (omega arith))
+    sym (part-part (32 * x) 32 (64 * j) 64 (senderPads columns blocks batch table delta) (omega arith))
     ∙ ap (part (32 * x) 32)
-    (ap (λ (a : ℕ). part a 64 (senderPads blocks batch table delta)) (mul-comm 64 j)
+    (ap (λ (a : ℕ). part a 64 (senderPads columns blocks batch table delta)) (mul-comm 64 j)
     ∙ concat-part (λ j. pad j (row j) ++ pad j (xorList (row j) delta)) 64 (64 * blocks)
     (λ j h. length-append (pad j (row j)) _ ∙ ap₂ _+_ (pad-length batch j (row j)) (pad-length batch j (xorList (row j) delta))) j lt)
     ∙ digit (λ (x : ℕ). part (32 * x) 32 (pad j (row j) ++ pad j (xorList (row j) delta)) ≡ pad j (xorList (row j) (scale x delta)))
@@ -71,7 +73,7 @@ given-pad blocks batch j x table delta lt hx =
     x hx
   where
     row : ℕ → List ℕ
-    row j = rowOf (columnLength blocks) table j
+    row j = rowOf columns (columnLength blocks) table j
 
     pad : ℕ → List ℕ → List ℕ
     pad j r = padOf batch j r
@@ -134,6 +136,12 @@ module _ (h : HonestBatch) where
   abbrev len : ℕ
   len = columnLength (h .blocks)
 
+  abbrev n : ℕ
+  n = treesOf (h .width)
+
+  abbrev stream : ℕ → List ℕ → ℕ
+  stream = streamByte (h .batch)
+
   width : Fits k
   width = width-fits k (h .width-allowed)
 
@@ -143,7 +151,7 @@ module _ (h : HonestBatch) where
       (h .receiver-setup) (h .sender-setup) (h .width-allowed) (h .roots-length) (h .base-pads-length) (h .setup-message-length)
       (h .delta-length) (h .siblings-length)
 
-  siblings-is : h .siblings′ ≡ besidePaths k (h .delta) (h .roots)
+  siblings-is : h .siblings′ ≡ besidePaths n k (h .delta) (h .roots)
   siblings-is =
       siblings-are k (h .roots) (h .basePads) (h .setupMessage) (h .setupMessage′) (h .delta) (h .siblings) (h .siblings′) (h .a₁) (h .a₂)
       (h .receiver-setup) (h .sender-setup) (setups .0) (setups .1)
@@ -159,15 +167,15 @@ module _ (h : HonestBatch) where
       (h .roots-length ∙ ap rootsLength (sym wide)) (h .choices-length) (h .v-length)
       (h .correction-length ∙ ap (λ (w : ℕ). correctionLength w (h .blocks)) (sym wide)))
 
-  choices-is : h .choices′ ≡ choicesOf k (h .batch) len (h .roots)
-  choices-is = h .receiver-start .chosen ∙ got (h .a₃) _ _ start-done ∙ ap (λ (w : ℕ). choicesOf w (h .batch) len (h .roots)) (h .receiver-ready .wide)
+  choices-is : h .choices′ ≡ choicesOf k stream len (h .roots)
+  choices-is = h .receiver-start .chosen ∙ got (h .a₃) _ _ start-done ∙ ap (λ (w : ℕ). choicesOf w stream len (h .roots)) (h .receiver-ready .wide)
 
-  v-is : h .v′ ≡ receiverTable k (h .batch) len (h .roots)
-  v-is = h .receiver-start .filled ∙ got (h .a₃) _ _ start-done ∙ ap (λ (w : ℕ). receiverTable w (h .batch) len (h .roots)) (h .receiver-ready .wide)
+  v-is : h .v′ ≡ receiverTable n k stream len (h .roots)
+  v-is = h .receiver-start .filled ∙ got (h .a₃) _ _ start-done ∙ ap (λ (w : ℕ). receiverTable (treesOf w) w stream len (h .roots)) (h .receiver-ready .wide)
 
-  correction-is : h .correction′ ≡ correctionOf k (h .batch) len (h .roots)
+  correction-is : h .correction′ ≡ correctionOf n k stream len (h .roots)
   correction-is =
-      h .receiver-start .corrected ∙ got (h .a₃) _ _ start-done ∙ ap (λ (w : ℕ). correctionOf w (h .batch) len (h .roots)) (h .receiver-ready .wide)
+      h .receiver-start .corrected ∙ got (h .a₃) _ _ start-done ∙ ap (λ (w : ℕ). correctionOf (treesOf w) w stream len (h .roots)) (h .receiver-ready .wide)
 
   receiver-opened : Opened (h .r₁) k (h .batch) (h .blocks)
   receiver-opened = opens (h .r) (h .r₁) k (h .batch) (h .blocks) (h .receiver-ready) (h .receiver-start .recorded ∙ got (h .a₃) _ _ start-done)
@@ -180,14 +188,14 @@ module _ (h : HonestBatch) where
       ∙ done-when _
       (four-named (mayOpen (h .q) (h .batch) (h .blocks)) _ siblingsLength _ deltaLength _ (correctionLength (h .q .width) (h .blocks)) _ (tableLength (h .blocks))
       (may-open (h .q) k (h .batch) (h .blocks) (h .sender-ready) (h .width-allowed) (h .sender-next) (h .some-blocks) (h .few-blocks))
-      (ap length siblings-is ∙ besidePaths-length k (h .delta) (h .roots) ∙ width .single) (h .delta-length)
-      (ap length correction-is ∙ correctionOf-length k (h .batch) len (h .roots) ∙ ap (λ (w : ℕ). correctionLength w (h .blocks)) (sym wide)) (h .w-length))
+      (ap length siblings-is ∙ besidePaths-length n k (h .delta) (h .roots) ∙ width .single) (h .delta-length)
+      (ap length correction-is ∙ correctionOf-length n k stream len (h .roots) ∙ ap (λ (w : ℕ). correctionLength w (h .blocks)) (sym wide)) (h .w-length))
 
-  w-is : h .w′ ≡ senderTable k (h .batch) len (besidePaths k (h .delta) (h .roots)) (h .delta) (correctionOf k (h .batch) len (h .roots))
+  w-is : h .w′ ≡ senderTable n k stream len (besidePaths n k (h .delta) (h .roots)) (h .delta) (treeCorrection len (correctionOf n k stream len (h .roots)))
   w-is =
       h .sender-correct .filled ∙ got (h .a₄) _ _ correct-done
-      ∙ ap (λ (w : ℕ). senderTable w (h .batch) len (h .siblings′) (h .delta) (h .correction′)) (h .sender-ready .wide)
-      ∙ ap₂ (λ (s c : List ℕ). senderTable k (h .batch) len s (h .delta) c) siblings-is correction-is
+      ∙ ap (λ (w : ℕ). senderTable (treesOf w) w stream len (h .siblings′) (h .delta) (treeCorrection len (h .correction′))) (h .sender-ready .wide)
+      ∙ ap₂ (λ (s c : List ℕ). senderTable n k stream len s (h .delta) (treeCorrection len c)) siblings-is correction-is
 
   sender-opened : Opened (h .q₁) k (h .batch) (h .blocks)
   sender-opened = opens (h .q) (h .q₁) k (h .batch) (h .blocks) (h .sender-ready) (h .sender-correct .recorded ∙ got (h .a₄) _ _ correct-done)
@@ -204,15 +212,15 @@ module _ (h : HonestBatch) where
       ∙ done-when _
       (four-named (mayEnd (h .r₁)) _ (columnLength blocks) _ (tableLength blocks) _ checkMessageLength _ (receiverPadsLength blocks)
       (may-end (h .r₁) k (h .batch) (h .blocks) receiver-opened (h .width-allowed) later (h .some-blocks) (h .few-blocks))
-      (ap length choices-is ∙ uOf-length k (h .batch) len _ ∙ ap columnLength same)
-      (ap length v-is ∙ receiverTable-length k (h .batch) len (h .roots) (width .columns) ∙ ap tableLength same)
+      (ap length choices-is ∙ uOf-length k stream len _ ∙ ap columnLength same)
+      (ap length v-is ∙ receiverTable-length n k stream len (h .roots) ∙ ap (λ (c : ℕ). c * len) (width .columns) ∙ ap tableLength same)
       (h .message-length) (h .pads-length ∙ ap receiverPadsLength same))
 
-  message-is : h .message′ ≡ checkMessage len (h .key) (choicesOf k (h .batch) len (h .roots)) (receiverTable k (h .batch) len (h .roots))
+  message-is : h .message′ ≡ checkMessage columns len (h .key) (choicesOf k stream len (h .roots)) (receiverTable n k stream len (h .roots))
   message-is =
       h .receiver-answer .told ∙ got (h .a₅) _ _ answer-done
-      ∙ ap (λ (n : ℕ). checkMessage (columnLength n) (h .key) (h .choices′) (h .v′)) (receiver-opened .blocks-are)
-      ∙ ap₂ (checkMessage len (h .key)) choices-is v-is
+      ∙ ap (λ (n : ℕ). checkMessage columns (columnLength n) (h .key) (h .choices′) (h .v′)) (receiver-opened .blocks-are)
+      ∙ ap₂ (checkMessage columns len (h .key)) choices-is v-is
 
   -- the sender's verify: what it was sent is honest, so by demand 3 it accepts
   abbrev sent : Sent
@@ -222,7 +230,7 @@ module _ (h : HonestBatch) where
   unrefused = either-way verdict (h .sender-verify .answered ∙ last-decides asked verdict Check ends)
     where
       verdict : Bool
-      verdict = accepts (columnLength (h .q₁ .blocks)) (h .key) (h .w′) (h .delta) (h .message′)
+      verdict = accepts columns (columnLength (h .q₁ .blocks)) (h .key) (h .w′) (h .delta) (h .message′)
 
       asked : Order
       asked = beforeCheck (h .q₁) (length (h .w′)) (length (h .delta)) (length (h .message′)) (length (h .bothPads))
@@ -234,8 +242,8 @@ module _ (h : HonestBatch) where
       ends =
           four-named (mayEnd (h .q₁)) _ (tableLength (h .q₁ .blocks)) _ deltaLength _ checkMessageLength _ (senderPadsLength (h .q₁ .blocks))
           (may-end (h .q₁) k (h .batch) (h .blocks) sender-opened (h .width-allowed) later (h .some-blocks) (h .few-blocks))
-          (ap length w-is ∙ senderTable-length k (h .batch) len _ (h .delta) _ (width .columns) ∙ ap tableLength same) (h .delta-length)
-          (ap length message-is ∙ message-length len (h .key) _ _) (h .both-pads-length ∙ ap senderPadsLength same)
+          (ap length w-is ∙ senderTable-length n k stream len _ (h .delta) _ ∙ ap (λ (c : ℕ). c * len) (width .columns) ∙ ap tableLength same) (h .delta-length)
+          (ap length message-is ∙ message-length columns len (h .key) _ _) (h .both-pads-length ∙ ap senderPadsLength same)
 
       either-way : (x : Bool) → h .a₆ ≡ cond x Done Check → (h .a₆ ≡ Done) ⊎ (h .a₆ ≡ Check)
       either-way true e = inl e
@@ -258,12 +266,12 @@ module _ (h : HonestBatch) where
     pads′ = h .bothPads′;
     answer = h .a₆;
     receiver-setup = subst (λ (a : Answer). ReceiverSetup k (h .roots) (h .basePads) (h .setupMessage) a (h .setupMessage′)) (setups .0) (h .receiver-setup);
-    sender-setup = subst (λ (a : Answer). SenderSetup k (h .delta) (senderBasePads k (h .delta) (h .basePads)) (h .setupMessage′) (h .siblings) a (h .siblings′)) (setups .1) (h .sender-setup);
+    sender-setup = subst (λ (a : Answer). SenderSetup k (h .delta) (senderBasePads n k (h .delta) (h .basePads)) (h .setupMessage′) (h .siblings) a (h .siblings′)) (setups .1) (h .sender-setup);
     same-width = h .sender-ready .wide;
     sender-correct = subst (λ (a : Answer). SenderCorrect (h .q) (h .siblings′) (h .delta) (h .batch) (h .blocks) (h .correction′) (h .w) a (h .q₁) (h .w′)) correct-done (h .sender-correct);
     sender-verify = h .sender-verify;
     unrefused = unrefused;
-    bytes = λ i. rw (ap (λ (l : List ℕ). getD l i 0) correction-is) (correctionOf-bytes k (h .batch) len (h .roots) i);
+    bytes = λ i. rw (ap (λ (l : List ℕ). getD l i 0) correction-is) (correctionOf-bytes stream (stream-lt (h .batch)) n k len (h .roots) i);
   }
 
   accepted : Accepts sent (h .delta) run
@@ -273,11 +281,15 @@ module _ (h : HonestBatch) where
       by-verdict (inl x) = x
       by-verdict (inr x) = absurd (x .differ (all-meet sent (h .key-fits) correction-is message-is (h .delta)))
 
-  row-relation : (j : ℕ) → rowOf len (h .w′) j ≡ xorList (rowOf len (h .v′) j) (scale (bitAt (h .choices′) j) (h .delta))
+  row-relation : (j : ℕ) → rowOf columns len (h .w′) j ≡ xorList (rowOf columns len (h .v′) j) (scale (bitAt (h .choices′) j) (h .delta))
   row-relation j =
-      ap (λ (t : List ℕ). rowOf len t j) w-is
-      ∙ honest-rows k (h .batch) len (h .delta) (h .roots) (width .some) (width .columns) (h .delta-bytes) (h .delta-length) j
-      ∙ ap₂ (λ (t u : List ℕ). xorList (rowOf len t j) (scale (bitAt u j) (h .delta))) (sym v-is) (sym choices-is)
+      let u : List ℕ = choicesOf k stream len (h .roots) in
+      let v : List ℕ = receiverTable n k stream len (h .roots) in
+      let made : List ℕ = senderTable n k stream len (besidePaths n k (h .delta) (h .roots)) (h .delta) (treeCorrection len (correctionOf n k stream len (h .roots))) in
+      ap (λ (t : List ℕ). rowOf columns len t j) w-is
+      ∙ subst (λ (m : ℕ). rowOf m len made j ≡ xorList (rowOf m len v j) (scale (bitAt u j) (h .delta))) (width .columns)
+      (honest-rows n k stream len (h .delta) (h .roots) (h .delta-bytes) j)
+      ∙ ap₂ (λ (t u : List ℕ). xorList (rowOf columns len t j) (scale (bitAt u j) (h .delta))) (sym v-is) (sym choices-is)
 
   agree : (j : ℕ) → j < 64 * h .blocks → part (32 * j) 32 (h .pads′) ≡ part (64 * j + 32 * bitAt (h .choices′) j) 32 (h .bothPads′)
   agree j lt =
@@ -285,12 +297,12 @@ module _ (h : HonestBatch) where
       let d : List ℕ = scale x (h .delta) in
       ap (part (32 * j) 32)
       (h .receiver-answer .padded ∙ got (h .a₅) _ _ answer-done
-      ∙ ap₂ (λ (blocks batch : ℕ). receiverPads blocks batch (h .v′)) (receiver-opened .blocks-are) (receiver-opened .last-is))
+      ∙ ap₂ (λ (blocks batch : ℕ). receiverPads columns blocks batch (h .v′)) (receiver-opened .blocks-are) (receiver-opened .last-is))
       ∙ own-pad (h .blocks) (h .batch) j (h .v′) lt
-      ∙ ap (padOf (h .batch) j) (sym (ap (λ (r : List ℕ). xorList r d) (row-relation j) ∙ xorEach-cancel (rowOf len (h .v′) j) (λ i. getD d i 0)))
+      ∙ ap (padOf (h .batch) j) (sym (ap (λ (r : List ℕ). xorList r d) (row-relation j) ∙ xorEach-cancel (rowOf columns len (h .v′) j) (λ i. getD d i 0)))
       ∙ sym (given-pad (h .blocks) (h .batch) j x (h .w′) (h .delta) lt (bit-lt _ _))
       ∙ ap (part (64 * j + 32 * x) 32)
-      (sym (accepted .padded ∙ ap (λ (batch : ℕ). senderPads (h .blocks) batch (h .w′) (h .delta)) (sender-opened .last-is)))
+      (sym (accepted .padded ∙ ap (λ (batch : ℕ). senderPads columns (h .blocks) batch (h .w′) (h .delta)) (sender-opened .last-is)))
 
 pub demand2 : (h : HonestBatch) → Demand2 h
 demand2 h = record {

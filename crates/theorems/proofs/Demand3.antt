@@ -16,23 +16,24 @@ use Rattle.words.proofs.Sums.{ofBits-same}
 use Rattle.words.proofs.Concat.{place-fits}
 use Rattle.sizes.specs.Sizes.{columns, treesOf, columnLength, correctionLength, tableLength}
 use Rattle.sizes.proofs.Widths.{Fits, width-fits}
+use Rattle.tree.specs.Tree.{streamByte}
 use Rattle.answer.specs.declared.Answer.{Answer}
 use Rattle.answer.specs.declared.Answer.the-variants.{Done, Check}
 use Rattle.answer.specs.Answer.{number, isDone, Order, whenDone, whenFailed}
 use Rattle.answer.proofs.Order.{apart, AllHold, reached, last-decides}
 use Rattle.setup.specs.Setup.{besidePaths}
 use Rattle.setup.proofs.Answers.{receiver-fits}
-use Rattle.columns.specs.Columns.{senderTable}
+use Rattle.columns.specs.Columns.{treeCorrection, senderTable}
 use Rattle.columns.proofs.Tables.{senderTable-length}
 use Rattle.consistency.specs.Message.{sidesEqual, accepts}
 use Rattle.consistency.proofs.Every.{every-of, every-is}
 use Rattle.pads.specs.Pads.{senderPads}
 use Rattle.rules.specs.Orders.{withoutBatch, closed, beforeCheck}
 use Rattle.rules.proofs.Fits.{correct-fits, verify-fits}
-use Rattle.theorems.specs.Errors.{Sent, lengthOf, columnError, foldedError}
+use Rattle.errors.specs.Errors.{Sent, lengthOf, columnError, foldedError}
 use Rattle.theorems.specs.Demand3.{Run, SidesEqual, ErrorsMeet, EveryColumn, TreePasses, Accepts, Closes, Demand3}
 use Rattle.theorems.proofs.Setup.{siblings-are}
-use Rattle.theorems.proofs.Column.{column-law}
+use Rattle.errors.proofs.Column.{column-law}
 
 -- ---- the verify's answer
 
@@ -63,24 +64,33 @@ module _ (s : Sent) (delta : List ℕ) (run : Run s delta) where
       ∙ ap (λ (w : ℕ). correctionLength w (s .blocks)) (run .same-width)
 
   -- the sender's table is that of the nodes beside the paths
-  table-is : run .table′ ≡ senderTable k (s .batch) len (besidePaths k delta (s .roots)) delta (s .correction)
+  abbrev table-of : ℕ → List ℕ → List ℕ
+  table-of w siblings = senderTable (treesOf w) w (streamByte (s .batch)) len siblings delta (treeCorrection len (s .correction))
+
+  table-is : run .table′ ≡ table-of k (besidePaths (treesOf k) k delta (s .roots))
   table-is =
       run .sender-correct .filled
-      ∙ ap₂ (λ (w : ℕ) (siblings : List ℕ). senderTable w (s .batch) len siblings delta (s .correction)) (run .same-width)
+      ∙ ap₂ table-of (run .same-width)
       (siblings-are k (s .roots) (run .basePads) (run .setupMessage) (run .setupMessage′) delta (run .siblings) (run .siblings′) Done Done
       (run .receiver-setup) (run .sender-setup) refl refl)
 
   each-column : EveryColumn (λ c. SidesEqual s delta (run .table′) c ↔ ErrorsMeet s delta c)
   each-column c lt =
       subst (λ (t : List ℕ). SidesEqual s delta t c ↔ ErrorsMeet s delta c) (sym table-is)
-      (column-law s correction-fits delta (width .some) (width .columns) (run .bytes) c lt)
+      (column-law s correction-fits delta (run .bytes) c (omega (arith, width .columns)))
 
   -- the verify tells of the batch whose table it was given
   same-blocks : (blocks : ℕ) → length (run .table′) ≡ tableLength blocks → blocks ≡ s .blocks
   same-blocks blocks e =
-      omega (arith, e, ap length table-is, senderTable-length k (s .batch) len (besidePaths k delta (s .roots)) delta (s .correction) (width .columns))
+      omega (
+        arith,
+        e,
+        ap length table-is,
+        senderTable-length (treesOf k) k (streamByte (s .batch)) len (besidePaths (treesOf k) k delta (s .roots)) delta (treeCorrection len (s .correction)),
+        ap (λ (c : ℕ). c * len) (width .columns),
+      )
 
-  decided : (x : Bool) → accepts len (s .key) (run .table′) delta (s .message) ≡ x → run .answer ≡ cond x Done Check
+  decided : (x : Bool) → accepts columns len (s .key) (run .table′) delta (s .message) ≡ x → run .answer ≡ cond x Done Check
       → run .q .blocks ≡ s .blocks → Accepts s delta run ⊎ Closes s delta run
   unfolding accepts
   decided true e a same = inl record {
@@ -88,7 +98,7 @@ module _ (s : Sent) (delta : List ℕ) (run : Run s delta) where
     answered = a;
     recorded = run .sender-verify .recorded ∙ ap (λ (x : Answer). whenDone x (withoutBatch (run .q)) (whenFailed x (closed (run .q)) (run .q))) a;
     padded = run .sender-verify .padded
-        ∙ ap₂ (λ (x : Answer) (blocks : ℕ). whenDone x (senderPads blocks (run .q .last) (run .table′) delta) (run .pads)) a same;
+        ∙ ap₂ (λ (x : Answer) (blocks : ℕ). whenDone x (senderPads columns blocks (run .q .last) (run .table′) delta) (run .pads)) a same;
   }
   decided false e a same = inr record {
     differ = λ meet.
@@ -97,7 +107,7 @@ module _ (s : Sent) (delta : List ℕ) (run : Run s delta) where
     answered = a;
     recorded = run .sender-verify .recorded ∙ ap (λ (x : Answer). whenDone x (withoutBatch (run .q)) (whenFailed x (closed (run .q)) (run .q))) a;
     padded = run .sender-verify .padded
-        ∙ ap (λ (x : Answer). whenDone x (senderPads (run .q .blocks) (run .q .last) (run .table′) delta) (run .pads)) a;
+        ∙ ap (λ (x : Answer). whenDone x (senderPads columns (run .q .blocks) (run .q .last) (run .table′) delta) (run .pads)) a;
   }
 
   -- the conditions before the check hold, since none of them was answered; so the check decides
@@ -105,7 +115,7 @@ module _ (s : Sent) (delta : List ℕ) (run : Run s delta) where
   asked = beforeCheck (run .q) (length (run .table′)) (length delta) (length (s .message)) (length (run .pads))
 
   abbrev verdict : Bool
-  verdict = accepts (columnLength (run .q .blocks)) (s .key) (run .table′) delta (s .message)
+  verdict = accepts columns (columnLength (run .q .blocks)) (s .key) (run .table′) delta (s .message)
 
   hold : AllHold asked
   hold = reached refusal asked ((verdict, Check) ∷ []) refl (ap refusal (sym (run .sender-verify .answered)) ∙ unrefused-is (run .answer) (run .unrefused))
@@ -113,7 +123,7 @@ module _ (s : Sent) (delta : List ℕ) (run : Run s delta) where
   decides : Accepts s delta run ⊎ Closes s delta run
   decides =
       let same = same-blocks (run .q .blocks) (verify-fits (run .q) (length (run .table′)) (length delta) (length (s .message)) (length (run .pads)) hold .1) in
-      decided verdict (ap (λ (blocks : ℕ). accepts (columnLength blocks) (s .key) (run .table′) delta (s .message)) (sym same))
+      decided verdict (ap (λ (blocks : ℕ). accepts columns (columnLength blocks) (s .key) (run .table′) delta (s .message)) (sym same))
       (run .sender-verify .answered ∙ last-decides asked verdict Check hold) same
 
   -- in each column of a tree that passes, delta's bit times the folded error is the error in the sent fold

@@ -11,7 +11,7 @@ use borrow.Author.Tests.{eq-eqb, lt-ltb, le-ltb}
 use Rattle.words.specs.Bytes.{part}
 use Rattle.words.specs.Xor.{xorList}
 use Rattle.words.proofs.Lists.{scale-zero, scale-one}
-use Rattle.sizes.specs.Sizes.{widthAllowed, columnLength, deltaLength, receiverBasePadsLength, senderBasePadsLength, setupMessageLength, siblingsLength, tableLength, correctionLength, checkMessageLength, receiverPadsLength, senderPadsLength}
+use Rattle.sizes.specs.Sizes.{widthAllowed, columns, columnLength, deltaLength, receiverBasePadsLength, senderBasePadsLength, setupMessageLength, siblingsLength, tableLength, correctionLength, checkMessageLength, receiverPadsLength, senderPadsLength}
 use Rattle.answer.specs.declared.Answer.the-variants.{Width, Stage, Batch, Blocks}
 use Rattle.answer.specs.Answer.{Order, firstOf}
 use Rattle.answer.proofs.Order.{refused-at}
@@ -77,11 +77,11 @@ blocks-outside-end r rest allowed isOpen some which =
 
 -- D = 0 is allowed: no step asks more of it than its length. The sender's two pads of a row are then equal
 pub zero-delta : (blocks batch j : ℕ) (table : List ℕ) → j < 64 * blocks
-    → part (64 * j) 32 (senderPads blocks batch table (replicate 16 0)) ≡ part (64 * j + 32) 32 (senderPads blocks batch table (replicate 16 0))
+    → part (64 * j) 32 (senderPads columns blocks batch table (replicate 16 0)) ≡ part (64 * j + 32) 32 (senderPads columns blocks batch table (replicate 16 0))
 zero-delta blocks batch j table lt =
     let zeros : List ℕ = replicate 16 0 in
     let first : 64 * j ≡ 64 * j + 32 * 0 = omega arith in
-    ap (λ (a : ℕ). part a 32 (senderPads blocks batch table zeros)) first
+    ap (λ (a : ℕ). part a 32 (senderPads columns blocks batch table zeros)) first
     ∙ given-pad blocks batch j 0 table zeros lt (omega arith)
-    ∙ ap (λ (d : List ℕ). padOf batch j (xorList (rowOf (columnLength blocks) table j) d)) (scale-zero zeros ∙ sym (scale-one zeros))
+    ∙ ap (λ (d : List ℕ). padOf batch j (xorList (rowOf columns (columnLength blocks) table j) d)) (scale-zero zeros ∙ sym (scale-one zeros))
     ∙ sym (given-pad blocks batch j 1 table zeros lt (omega arith))

@@ -2,8 +2,6 @@
 pub mod Cases
 pub mod Setup
 pub mod Batch
-pub mod Column
-pub mod NoErrors
 pub mod Demand1
 pub mod Demand3
 pub mod Demand2

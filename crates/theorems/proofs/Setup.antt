@@ -17,18 +17,18 @@ use Rattle.sizes.proofs.Widths.{width-fits}
 module _ (width : ℕ) (roots pads message message′ delta siblings siblings′ : List ℕ) (answer answer′ : Answer)
     (received : ReceiverSetup width roots pads message answer message′)
     -- the sender is given the receiver's message, and of each two base pads the one numbered 1 minus the path bit
-    (sent : SenderSetup width delta (senderBasePads width delta pads) message′ siblings answer′ siblings′) where
-  message-is : answer ≡ Done → message′ ≡ messageOf width roots pads
-  message-is done = received .written ∙ ap (λ (a : Answer). whenDone a (messageOf width roots pads) message) done
+    (sent : SenderSetup width delta (senderBasePads (treesOf width) width delta pads) message′ siblings answer′ siblings′) where
+  message-is : answer ≡ Done → message′ ≡ messageOf (treesOf width) width roots pads
+  message-is done = received .written ∙ ap (λ (a : Answer). whenDone a (messageOf (treesOf width) width roots pads) message) done
 
   -- where both are done, the sender has exactly the nodes beside the paths of delta in the receiver's trees
-  pub siblings-are : answer ≡ Done → answer′ ≡ Done → siblings′ ≡ besidePaths width delta roots
+  pub siblings-are : answer ≡ Done → answer′ ≡ Done → siblings′ ≡ besidePaths (treesOf width) width delta roots
   siblings-are done done′ =
       let fits = receiver-fits width (length roots) (length pads) (length message) (ap isDone (sym (received .answered) ∙ done)) in
       sent .written
-      ∙ ap (λ (a : Answer). whenDone a (siblingsOf width delta (senderBasePads width delta pads) message′) siblings) done′
-      ∙ ap (siblingsOf width delta (senderBasePads width delta pads)) (message-is done)
-      ∙ honest-setup width delta roots pads (omega (arith, pads-enough width, fits .2))
+      ∙ ap (λ (a : Answer). whenDone a (siblingsOf (treesOf width) width delta (senderBasePads (treesOf width) width delta pads) message′) siblings) done′
+      ∙ ap (siblingsOf (treesOf width) width delta (senderBasePads (treesOf width) width delta pads)) (message-is done)
+      ∙ honest-setup (treesOf width) width delta roots pads (omega (arith, pads-enough width, fits .2))
 
   -- and both are done at every width that is allowed, on ranges of the lengths named
   pub both-done : widthAllowed width ≡ true → length roots ≡ rootsLength width → length pads ≡ receiverBasePadsLength → length message ≡ setupMessageLength
@@ -42,8 +42,8 @@ module _ (width : ℕ) (roots pads message message′ delta siblings siblings′
             ∙ sender-done width _ _ _ _ (
               allowed,
               d,
-              senderBasePads-length width delta pads long ∙ fits .single,
-              ap length (message-is done) ∙ messageOf-length width roots pads ∙ fits .pairs,
+              senderBasePads-length (treesOf width) width delta pads long ∙ fits .single,
+              ap length (message-is done) ∙ messageOf-length (treesOf width) width roots pads ∙ fits .pairs,
               s,
             ),
       )

@@ -7,7 +7,7 @@ use lib.ListN.{length}
 use Rattle.words.specs.Bytes.{Bytes, part}
 use Rattle.words.specs.Bits.{bitAt}
 use Rattle.words.specs.Xor.{xorList, scale}
-use Rattle.sizes.specs.Sizes.{widthAllowed, columnLength, deltaLength, rootsLength, receiverBasePadsLength, setupMessageLength, siblingsLength, tableLength, correctionLength, checkMessageLength, receiverPadsLength, senderPadsLength}
+use Rattle.sizes.specs.Sizes.{widthAllowed, columns, treesOf, columnLength, deltaLength, rootsLength, receiverBasePadsLength, setupMessageLength, siblingsLength, tableLength, correctionLength, checkMessageLength, receiverPadsLength, senderPadsLength}
 use Rattle.answer.specs.declared.Answer.{Answer}
 use Rattle.answer.specs.declared.Answer.the-variants.{Done}
 use Rattle.setup.specs.Setup.{senderBasePads, ReceiverSetup, SenderSetup}
@@ -66,7 +66,7 @@ pub record HonestBatch : Type 0 where
   pub a₆ : Answer
   -- the six calls: each side hands back what it was given, and is given what the other side made
   pub receiver-setup : ReceiverSetup width roots basePads setupMessage a₁ setupMessage′
-  pub sender-setup : SenderSetup width delta (senderBasePads width delta basePads) setupMessage′ siblings a₂ siblings′
+  pub sender-setup : SenderSetup width delta (senderBasePads (treesOf width) width delta basePads) setupMessage′ siblings a₂ siblings′
   pub receiver-start : ReceiverStart r roots batch blocks choices v correction a₃ r₁ choices′ v′ correction′
   pub sender-correct : SenderCorrect q siblings′ delta batch blocks correction′ w a₄ q₁ w′
   pub receiver-answer : ReceiverAnswer r₁ key choices′ v′ message pads a₅ r₂ message′ pads′
@@ -107,6 +107,7 @@ pub record Demand2 (h : HonestBatch) : Type 0 where
   pub sessions-ready : (h .r₂ ≡ ended (h .width) (h .batch)) × (h .q₂ ≡ ended (h .width) (h .batch))
   -- each row of the sender, those of the spent block too, is the receiver's row, with delta added where the choice bit is 1
   pub rows : (j : ℕ) → j < 64 * (h .blocks + 1)
-      → rowOf (columnLength (h .blocks)) (h .w′) j ≡ xorList (rowOf (columnLength (h .blocks)) (h .v′) j) (scale (bitAt (h .choices′) j) (h .delta))
+      → rowOf columns (columnLength (h .blocks)) (h .w′) j
+      ≡ xorList (rowOf columns (columnLength (h .blocks)) (h .v′) j) (scale (bitAt (h .choices′) j) (h .delta))
   -- the receiver's pad of a row is the sender's pad of that choice: pad 0 stands before pad 1
   pub pads-agree : (j : ℕ) → j < 64 * h .blocks → part (32 * j) 32 (h .pads′) ≡ part (64 * j + 32 * bitAt (h .choices′) j) 32 (h .bothPads′)

@@ -17,7 +17,7 @@ use Rattle.consistency.specs.Message.{sentChoice, sentColumn}
 use Rattle.rules.specs.declared.Record.{Record}
 use Rattle.rules.specs.Orders.{withoutBatch, closed}
 use Rattle.session.specs.Steps.{SenderCorrect, SenderVerify}
-use Rattle.theorems.specs.Errors.{Sent, lengthOf, columnError, foldedError}
+use Rattle.errors.specs.Errors.{Sent, lengthOf, columnError, foldedError}
 
 -- a run of the four steps under a secret. What a step is lent is named x, and what it leaves there x′; all of it is arbitrary
 pub record Run (s : Sent) (delta : List ℕ) : Type 0 where
@@ -39,7 +39,8 @@ pub record Run (s : Sent) (delta : List ℕ) : Type 0 where
   -- the receiver's setup is done
   pub receiver-setup : ReceiverSetup (s .width) (s .roots) basePads setupMessage Done setupMessage′
   -- and the sender's, of its width, on its message and, for each base transfer, its pad numbered 1 minus the path bit
-  pub sender-setup : SenderSetup (s .width) delta (senderBasePads (s .width) delta basePads) setupMessage′ siblings Done siblings′
+  pub sender-setup : SenderSetup (s .width) delta (senderBasePads (treesOf (s .width)) (s .width) delta basePads) setupMessage′ siblings
+      Done siblings′
   -- the sender's correction is done, on its siblings, the same secret, and a record of that width
   pub same-width : r .width ≡ s .width
   pub sender-correct : SenderCorrect r siblings′ delta (s .batch) (s .blocks) (s .correction) table Done r′ table′
@@ -70,7 +71,7 @@ pub record Accepts (s : Sent) (delta : List ℕ) (run : Run s delta) : Type 0 wh
   pub meet : EveryColumn (ErrorsMeet s delta)
   pub answered : run .answer ≡ Done
   pub recorded : run .q′ ≡ withoutBatch (run .q)
-  pub padded : run .pads′ ≡ senderPads (s .blocks) (run .q .last) (run .table′) delta
+  pub padded : run .pads′ ≡ senderPads columns (s .blocks) (run .q .last) (run .table′) delta
 
 -- or it answers that the check failed, and closes, and nothing else has changed
 pub record Closes (s : Sent) (delta : List ℕ) (run : Run s delta) : Type 0 where

@@ -1,5 +1,4 @@
 pub mod Cases
-pub mod Errors
 pub mod Demand1
 pub mod Demand2
 pub mod Demand3

@@ -6,3 +6,4 @@ pub mod Lanes
 pub mod Telescope
 pub mod Streams
 pub mod Sides
+pub mod TreesFit

@@ -20,15 +20,12 @@ totalWord nodes i = sumBelow (i / 64) (keyIn (i % 4) nodes) 0 (childWord (i % 64
 abbrev pub totalByte : List ℕ → ℕ → ℕ
 totalByte node x = sumBelow (x / 64) node 0 (λ y m. getD (childrenOf m) (x % 64) 0)
 
--- word j of a leaf's stream
-abbrev pub streamWord : ℕ → ℕ → List ℕ → ℕ
-streamWord batch j leaf = getD (blockWords leaf (j / 16) (nonceOf 1 batch)) (j % 16) 0
-
--- the sums of the streams of all leaves so many levels below four nodes: at place i word i / 4 of the sum below the node in lane i % 4
-abbrev pub uWord : ℕ → ℕ → List ℕ → ℕ → ℕ
-uWord batch levels nodes i = sumBelow levels (keyIn (i % 4) nodes) 0 (λ y leaf. streamWord batch (i / 4) leaf)
+-- the sums of the streams of all leaves so many levels below four nodes, where word j leaf is word j of a leaf's stream: at place i word
+-- i / 4 of the sum below the node in lane i % 4
+abbrev pub uWord : (word : ℕ → List ℕ → ℕ) (levels : ℕ) (nodes : List ℕ) (i : ℕ) → ℕ
+uWord word levels nodes i = sumBelow levels (keyIn (i % 4) nodes) 0 (λ y leaf. word (i / 4) leaf)
 
 -- their columns one after the other, len words each: column b sums the leaves whose number has bit b
-abbrev pub columnWord : ℕ → ℕ → ℕ → List ℕ → ℕ → ℕ
-columnWord batch len levels nodes i =
-    sumBelow levels (keyIn (i % len % 4) nodes) 0 (λ y leaf. bitOf y (i / len) * streamWord batch (i % len / 4) leaf)
+abbrev pub columnWord : (word : ℕ → List ℕ → ℕ) (len levels : ℕ) (nodes : List ℕ) (i : ℕ) → ℕ
+columnWord word len levels nodes i =
+    sumBelow levels (keyIn (i % len % 4) nodes) 0 (λ y leaf. bitOf y (i / len) * word (i % len / 4) leaf)

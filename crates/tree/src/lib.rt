@@ -7,6 +7,12 @@ ghost use lib.ListN.{length, getD};
 ghost use Rattle.words.specs.Bytes.{part};
 ghost use Rattle.words.specs.Xor.{xorEach, xorPart};
 ghost use Rattle.tree.specs.Lanes.{totalWord, uWord, columnWord};
+ghost use Rattle.tree.specs.Streams.{blockWord, wordOf};
+
+// What a leaf's stream is drawn by: the number of the batch.
+pub struct Stream {
+    pub batch: u32,
+}
 
 // The four nodes at a place of s: in four blocks the left children stand at 0, the right ones at 32.
 pub fn nodes_at(s: &[u32], at: usize) -> [u32; 32]
@@ -35,21 +41,28 @@ pub fn totals(nodes: &[u32; 32], levels: usize, t: &mut [u32])
     }
 }
 
-// Adds the streams of four leaves to u.
-fn add_stream(leaves: &[u32; 32], batch: u32, u: &mut [u32])
+// Adds the blocks of four keys under a nonce, by the counters from 0 on, to u.
+fn add_blocks(keys: &[u32; 32], nonce: &[u8; 12], u: &mut [u32])
     requires { ⌜ (length (now u) % 64 ≡ 0) × (length (now u) ≤ 512) ⌝ }
-    ensures { λ _. ⌜ now (u .exit) ≡ xorEach (now (u .entry)) (uWord batch 0 (now (leaves .entry))) ⌝ }
+    ensures { λ _. ⌜ now (u .exit) ≡ xorEach (now (u .entry)) (uWord (blockWord (now (nonce .entry))) 0 (now (keys .entry))) ⌝ }
 {
-    let nonce = chacha20::nonce(1, batch);
     let mut counter = 0u32;
     let mut at = 0;
     while at < u.len() {
-        let c = chacha20::four::block(leaves, counter, &nonce);
+        let c = chacha20::four::block(keys, counter, nonce);
         let end = at + 64;
         words::xor_words(&mut u[at..end], &c);
         counter += 1;
         at = end;
     }
+}
+
+// Adds the streams of four leaves to u.
+fn add_stream(leaves: &[u32; 32], stream: Stream, u: &mut [u32])
+    requires { ⌜ (length (now u) % 64 ≡ 0) × (length (now u) ≤ 512) ⌝ }
+    ensures { λ _. ⌜ now (u .exit) ≡ xorEach (now (u .entry)) (uWord (wordOf stream) 0 (now (leaves .entry))) ⌝ }
+{
+    add_blocks(leaves, &chacha20::nonce(1, stream.batch), u);
 }
 
 // Adds u to column r of v.
@@ -64,19 +77,19 @@ fn add_column(v: &mut [u32], r: usize, u: &[u32])
 
 // Adds the streams of all leaves some levels below four nodes to u, and to column b of v those of the leaves whose number has bit b.
 // The leaves on the right have the bit of their level: u is added to its column before them and after them, so that only they stay.
-pub fn walk(nodes: &[u32; 32], levels: usize, batch: u32, u: &mut [u32], v: &mut [u32])
+pub fn walk(nodes: &[u32; 32], levels: usize, stream: Stream, u: &mut [u32], v: &mut [u32])
     requires { ⌜ levels * length (now u) ≤ length (now v) ⌝ }
     requires { ⌜ (length (now u) % 64 ≡ 0) × (length (now u) ≤ 512) × (0 < length (now u)) ⌝ }
-    ensures { λ _. ⌜ now (u .exit) ≡ xorEach (now (u .entry)) (uWord batch levels (now (nodes .entry))) ⌝ }
-    ensures { λ _. ⌜ now (v .exit) ≡ xorEach (now (v .entry)) (columnWord batch (length (now (u .entry))) levels (now (nodes .entry))) ⌝ }
+    ensures { λ _. ⌜ now (u .exit) ≡ xorEach (now (u .entry)) (uWord (wordOf stream) levels (now (nodes .entry))) ⌝ }
+    ensures { λ _. ⌜ now (v .exit) ≡ xorEach (now (v .entry)) (columnWord (wordOf stream) (length (now (u .entry))) levels (now (nodes .entry))) ⌝ }
 {
     if levels == 0 {
-        add_stream(nodes, batch, u);
+        add_stream(nodes, stream, u);
     } else {
         let c = chacha20::four::block(nodes, 0, &chacha20::nonce(0, 0));
-        walk(&nodes_at(&c, 0), levels - 1, batch, u, v);
+        walk(&nodes_at(&c, 0), levels - 1, stream, u, v);
         add_column(v, levels - 1, u); // what u has so far goes when u is added again
-        walk(&nodes_at(&c, 32), levels - 1, batch, u, v);
+        walk(&nodes_at(&c, 32), levels - 1, stream, u, v);
         add_column(v, levels - 1, u);
     }
 }

@@ -1,32 +1,28 @@
 // Delta as a side for each base transfer, and a side as a mask: never a branch or an address.
 ghost use mathlib.Core.Path.{_≡_};
-ghost use mathlib.Core.Bool.{true};
-ghost use Prim.Native.Nat.{_+_, _-_, _*_, _^_, _<_};
+ghost use Prim.Native.Nat.{_+_, _-_, _*_, _%_, _^_, _≤_, _<_};
 ghost use lib.ListN.{length, getD};
 ghost use Rattle.words.specs.Bytes.{tabulate};
-ghost use Rattle.sizes.specs.Sizes.{widthAllowed, deltaLength};
 ghost use Rattle.tree.specs.Sides.{sidesOf};
 
-// For each base transfer the side of the sibling: 1 minus the path's bit, which is delta's highest of the tree at
+// Fills out with the side of the sibling of each base transfer: 1 minus the path's bit, which is delta's highest of the tree at
 // level 0. (In memory the compiler doesn't see that a side is a bit: where it sees that, it may turn a mask back into a branch.)
-pub fn all(k: usize, delta: &[u8]) -> [u8; 128]
-    requires { ⌜ (widthAllowed k ≡ true) × (length (now delta) ≡ deltaLength) ⌝ }
-    ensures { λ r. ⌜ r ≡ sidesOf k (now (delta .entry)) ⌝ }
+pub fn all(k: usize, delta: &[u8], out: &mut [u8])
+    requires { ⌜ (0 < k) × (length (now out) % k ≡ 0) × (length (now out) ≤ 8 * length (now delta)) ⌝ }
+    ensures { λ _. ⌜ now (out .exit) ≡ sidesOf (length (now (out .entry))) k (now (delta .entry)) ⌝ }
 {
-    let mut r = [0u8; 128];
     let mut c = 0;
     let mut level = 0;
-    while c < 128 {
+    while c < out.len() {
         let tree = c - level;
         let highest = k - 1 - level;
-        r[c] = 1 - words::bit(delta, tree + highest);
+        out[c] = 1 - words::bit(delta, tree + highest);
         c += 1;
         level += 1;
         if level == k {
             level = 0;
         }
     }
-    r
 }
 
 // The sides of four trees of k levels at a level.

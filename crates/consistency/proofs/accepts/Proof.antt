@@ -1,80 +1,91 @@
--- `consistency::accepts` meets its contract: the columns below c are compared. Assumes nothing.
-use mathlib.Core.Path.{_≡_, refl, ap, _∙_}
-use denote.Ref.{now}
-use Prim.Native.Nat.{ℕ, _-_, _≤_}
+-- `consistency::accepts` meets its contract: the folds that are compared are those of the table. Assumes nothing.
+use mathlib.Core.Path.{_≡_, ap, _∙_}
+use mathlib.Core.List.{List, _++_}
+use Prim.Native.Nat.{ℕ, _-_, _*_, _≤_}
 use native.Mathlib.Omega.{arith}
-use lib.Dec.{eqb}
+use denote.Ref.{now}
+use lib.ListN.{length, take, drop, replicate, length-replicate}
+use lib.Seq.{take-at}
 use borrow.Author.Needs.{needs}
-use Rattle.consistency.specs.Message.{sidesEqual, every, accepts}
-use Rattle.consistency.proofs.Sides.{compared-more}
+use borrow.Rule.Slice.PartMut.{same-len-mid}
+use Rattle.words.proofs.Lists.{cut-length}
 use Rattle.consistency.proofs.accepts.Statement.{statement}
 use Rattle.consistency.proofs.accepts.Tie as tie
 
-abbrev Inv-loop : tie.InvT-loop
-Inv-loop key table delta message len folds all₀ c₀ all c = (c ≤ 128) × (eqb all 0 ≡ every c (sidesEqual len key table delta message))
-
-abbrev μ-loop : tie.MeasureT-loop
-μ-loop key table delta message len folds all₀ c₀ all c = 128 - c
-
-table-requires : tie.Need-table-requires Inv-loop μ-loop
+table-requires : tie.Need-table-requires
 table-requires c κs = search needs
 
-slice-aggregate-fold-columns : tie.Need-slice-aggregate-fold-columns Inv-loop μ-loop
-slice-aggregate-fold-columns c = search needs
+mul-size : tie.Need-mul-size
+mul-size c = omega (arith, c .before .before .before .before .pre)
 
-fold-columns-requires : tie.Need-fold-columns-requires Inv-loop μ-loop
-fold-columns-requires c κs = search needs
+sub-fold-columns : tie.Need-sub-fold-columns
+sub-fold-columns c = omega arith
 
-loop-holds : tie.Need-loop-holds Inv-loop μ-loop
-unfolding every
-loop-holds c = (omega arith, refl)
+part-folds-start : tie.Need-part-folds-start
+part-folds-start c = omega arith
 
-slice-aggregate-difference : tie.Need-slice-aggregate-difference Inv-loop μ-loop
-slice-aggregate-difference c = search needs
+part-folds-end : tie.Need-part-folds-end
+part-folds-end c = omega (arith, c .before .before .before .before .before .pre)
 
-difference-requires : tie.Need-difference-requires Inv-loop μ-loop
-difference-requires c κs = search needs
+fold-columns-requires : tie.Need-fold-columns-requires
+fold-columns-requires c κs =
+    let s = c .before .before .before .before .before .before in
+    let few : 8 * s .args .m ≤ 1024 = omega (arith, s .pre .1) in
+    (s .pre .0, s .pre .2, cut-length (8 * s .args .m) 1024 few)
 
-add-c : tie.Need-add-c Inv-loop μ-loop
-add-c c = search needs
+-- the folds that are lent again
+held : (c : tie.After-fold-columns) → length (c .fold-columns .last .1 .1 .1 .1 .0) ≡ 8 * c .before .before .before .before .before .before .before .args .m
+held c =
+    let s = c .before .before .before .before .before .before .before in
+    let few : 8 * s .args .m ≤ 1024 = omega (arith, s .pre .1) in
+    c .fold-columns .kept .1 .1 .1 .1 .0 ∙ cut-length (8 * s .args .m) 1024 few
 
-loop-less : tie.Need-loop-less Inv-loop μ-loop
-loop-less c = search needs
+lent : (c : tie.After-fold-columns)
+    → (let size : ℕ = 8 * c .before .before .before .before .before .before .before .args .m in
+    take (size - 0) (c .fold-columns .last .1 .1 .1 .1 .0 ++ drop (size - 0) (replicate 1024 0)) ≡ c .fold-columns .last .1 .1 .1 .1 .0)
+lent c =
+    let size : ℕ = 8 * c .before .before .before .before .before .before .before .args .m in
+    let none : size ≡ size - 0 = omega arith in
+    take-at (c .fold-columns .last .1 .1 .1 .1 .0) (drop (size - 0) (replicate 1024 0)) (size - 0) (held c ∙ none)
 
-loop-again : tie.Need-loop-again Inv-loop μ-loop
-loop-again c =
-    let s = c .before .before .before .before .before .before .before .before .before .before .before .before in
-    let w = c .before .before .before .loop in
-    let folded = c .before .before .before .before .before .fold-columns in
-    let made = folded .ensures (s .args .key) (c .before .before .before .before .before .before .before .before .table .ensures) in (
-      omega arith,
-      compared-more (s .args .len) (s .args .key) (now (s .args .table)) (now (s .args .delta)) (now (s .args .message)) _
-          (s .fits .key .fits) (λ i. c .before .before .before .before .before .before .before .before .before .before .before .shared-slice-known .given i .fits)
-          made (w .all) _ (w .c) (c .before .before .loop-test .taken)
-          (c .difference .ensures) (w .inv .1),
-    )
+sub-all-equal : tie.Need-sub-all-equal
+sub-all-equal c = omega arith
 
-returns : tie.Need-returns Inv-loop μ-loop
-unfolding accepts
+part-all-equal-start : tie.Need-part-all-equal-start
+part-all-equal-start c = omega arith
+
+part-all-equal-end : tie.Need-part-all-equal-end
+part-all-equal-end c =
+    let s = c .before .before .before .before .before .before .before .before .before in
+    let folded = c .before .before .fold-columns in
+    let size : ℕ = 8 * s .args .m in
+    let long = same-len-mid 0 (size - 0) (replicate 1024 0) (folded .last .1 .1 .1 .1 .0) (folded .kept .1 .1 .1 .1 .0) in
+    omega (arith, s .pre .1, long, length-replicate {A = ℕ} 1024 0)
+
+all-equal-requires : tie.Need-all-equal-requires
+all-equal-requires c κs =
+    let s = c .before .before .before .before .before .before .before .before .before .before in
+    (ap length (lent (c .before .before .before)) ∙ held (c .before .before .before), s .pre .3, s .pre .4)
+
+returns : tie.Need-returns
 returns c =
-    let a = c .before .before .before .before .before .before .before .before .before .before .args in
-    let w = c .before .loop in
-    let whole : w .c ≡ 128 = omega (arith, w .inv .0, c .loop-test .left) in
-    w .inv .1 ∙ ap (λ (n : ℕ). every n (sidesEqual (a .len) (a .key) (now (a .table)) (now (a .delta)) (now (a .message)))) whole
+    let s = c .before .before .before .before .before .before .before .before .before .before .before in
+    let folded = c .before .before .before .before in
+    c .all-equal .ensures (s .args .len) (s .args .key) (now (s .args .table)) (s .fits .key .fits) (λ i. c .before .before .before .before .before .before .before .before .before .before .shared-slice-known .given i .fits)
+    (lent folded ∙ folded .fold-columns .ensures (s .args .key) (c .before .before .before .before .before .before .before .table .ensures))
 
 pub accepts-spec : {M : Type 1} → statement M
 accepts-spec =
     tie.close
     (tie.spec
-    Inv-loop
-    μ-loop
     table-requires
-    slice-aggregate-fold-columns
+    mul-size
+    sub-fold-columns
+    part-folds-start
+    part-folds-end
     fold-columns-requires
-    loop-holds
-    slice-aggregate-difference
-    difference-requires
-    add-c
-    loop-less
-    loop-again
+    sub-all-equal
+    part-all-equal-start
+    part-all-equal-end
+    all-equal-requires
     returns)

@@ -18,38 +18,38 @@ use Rattle.consistency.proofs.fold_columns.Statement.{statement}
 use Rattle.consistency.proofs.fold_columns.Tie as tie
 
 abbrev Inv-loop : tie.InvT-loop
-Inv-loop t table len out₀ i₀ out i =
+Inv-loop m t table len out₀ i₀ out i =
     (i % 4 ≡ 0)
-    × (i ≤ 128)
-    × (length out ≡ 1024)
+    × (i ≤ m)
+    × (length out ≡ 8 * m)
     × ((g : ℕ) → t ≡ tableOf g → take (i * 8) out ≡ concat i (λ c. bytes 8 (foldBytes g (columnOf len table c))))
 
 abbrev μ-loop : tie.MeasureT-loop
-μ-loop t table len out₀ i₀ out i = 128 - i
+μ-loop m t table len out₀ i₀ out i = m - i
 
 loop-holds : tie.Need-loop-holds Inv-loop μ-loop
 unfolding concat
-loop-holds c = (omega arith, omega arith, c .before .before .pre .1, λ g h. refl)
+loop-holds c = (omega arith, omega arith, c .before .before .pre .2, λ g h. refl)
 
 -- four columns from column i on are within the table
-abbrev Room : ℕ → ℕ → Type 0
-Room len i = (i + 4 ≤ 128) × ((i + 4) * len ≡ i * len + 4 * len) × ((i + 4) * len ≤ 128 * len)
+abbrev Room : ℕ → ℕ → ℕ → Type 0
+Room m len i = (i + 4 ≤ m) × ((i + 4) * len ≡ i * len + 4 * len) × ((i + 4) * len ≤ m * len)
 
-room : (c : tie.In-loop Inv-loop μ-loop) → Room (c .before .before .before .before .args .len) (c .before .loop .i)
+room : (c : tie.In-loop Inv-loop μ-loop) → (let s = c .before .before .before .before in Room (s .args .m) (s .args .len) (c .before .loop .i))
 room c =
-    let len = c .before .before .before .before .args .len in
+    let s = c .before .before .before .before in
     let i = c .before .loop .i in
-    let next : i + 4 ≤ 128 = omega (arith, c .before .loop .inv .0) in
-    (next, add-mul i 4 len, mul-le-mul-right len next)
+    let next : i + 4 ≤ s .args .m = omega (arith, c .before .loop .inv .0, s .pre .0, c .loop-test .taken) in
+    (next, add-mul i 4 (s .args .len), mul-le-mul-right (s .args .len) next)
 
 add-next : tie.Need-add-next Inv-loop μ-loop
 add-next c = omega (arith, room c)
 
 mul-from : tie.Need-mul-from Inv-loop μ-loop
-mul-from c = omega (arith, room c, c .before .before .before .before .pre .0)
+mul-from c = omega (arith, room c, c .before .before .before .before .pre)
 
 mul-to : tie.Need-mul-to Inv-loop μ-loop
-mul-to c = omega (arith, room c, c .before .before .before .before .pre .0)
+mul-to c = omega (arith, room c, c .before .before .before .before .pre)
 
 sub-fold-four : tie.Need-sub-fold-four Inv-loop μ-loop
 sub-fold-four c = omega (arith, room c)
@@ -58,7 +58,7 @@ part-fold-four-start : tie.Need-part-fold-four-start Inv-loop μ-loop
 part-fold-four-start c = omega (arith, room c)
 
 part-fold-four-end : tie.Need-part-fold-four-end Inv-loop μ-loop
-part-fold-four-end c = omega (arith, room c, c .before .before .before .before .pre .0)
+part-fold-four-end c = omega (arith, room c, c .before .before .before .before .pre)
 
 fold-four-requires : tie.Need-fold-four-requires Inv-loop μ-loop
 fold-four-requires c κs =
@@ -66,7 +66,7 @@ fold-four-requires c κs =
     let i = c .before .before .loop .i in
     let here = room (c .before) in
     let size : (i + 4) * s .args .len - i * s .args .len ≡ 4 * s .args .len = omega (arith, here) in
-    mid-len (i * s .args .len) ((i + 4) * s .args .len) (s .args .table .now) (omega (arith, here, s .pre .0)) ∙ size
+    mid-len (i * s .args .len) ((i + 4) * s .args .len) (s .args .table .now) (omega (arith, here, s .pre)) ∙ size
 
 mul-at : tie.Need-mul-at Inv-loop μ-loop
 mul-at c = omega (arith, room (c .before .before))
@@ -114,15 +114,15 @@ loop-again c =
     )
 
 same-length : tie.Need-same-length Inv-loop μ-loop
-same-length c = c .before .loop .inv .2 ∙ sym (c .before .before .before .before .pre .1)
+same-length c = c .before .loop .inv .2 ∙ sym (c .before .before .before .before .pre .2)
 
 returns : tie.Need-returns Inv-loop μ-loop
 returns c =
     let s = c .before .before .before .before in
     let w = c .before .loop in
-    let all : w .i ≡ 128 = omega (arith, w .inv .1) in
+    let all : w .i ≡ s .args .m = omega (arith, w .inv .1, c .loop-test .left) in
     λ g h.
-    sym (take-all (w .i * 8) (w .out) (omega (arith, w .inv .2)))
+    sym (take-all (w .i * 8) (w .out) (omega (arith, w .inv .2, all)))
     ∙ w .inv .3 g h
     ∙ ap (λ (i : ℕ). concat i (λ j. bytes 8 (foldBytes g (columnOf (s .args .len) (s .args .table .now) j)))) all
 

@@ -1,13 +1,15 @@
--- `receiver_columns::four_trees` meets its contract: each lane of what the walk leaves is stored. Assumes nothing.
+-- `receiver_columns::four_trees` meets its contract: each lane of what the walk leaves is laid where it goes. Assumes nothing.
 use mathlib.Core.Path.{_≡_, ap, _∙_}
-use Prim.Native.Nat.{ℕ, _-_, _*_, _/_}
+use mathlib.Core.List.{List, _++_}
+use Prim.Native.Nat.{ℕ, _+_, _-_, _*_, _/_}
 use native.Mathlib.Omega.{arith}
 use lib.ListN.{length, take}
 use lib.Seq.{length-take-le}
-use Rattle.words.specs.Bytes.{part, concat}
+use Rattle.words.specs.Bytes.{part, concat, put}
 use Rattle.words.specs.Lanes.{laneBytes}
 use Rattle.words.proofs.Concat.{concat-same}
 use Rattle.tree.specs.Layout.{rootOf}
+use Rattle.tree.specs.Streams.{byteOf}
 use Rattle.columns.specs.Columns.{uOf, receiverColumn}
 use Rattle.receiver_columns.proofs.four_trees.Statement.{statement}
 use Rattle.receiver_columns.proofs.four_trees.Tie as tie
@@ -15,24 +17,31 @@ use Rattle.receiver_columns.proofs.four_trees.Tie as tie
 walk-roots-requires : tie.Need-walk-roots-requires
 walk-roots-requires c κs = omega arith
 
-sub-store-lanes : tie.Need-sub-store-lanes
-sub-store-lanes c = omega arith
+sub-hand-out-four : tie.Need-sub-hand-out-four
+sub-hand-out-four c = omega arith
 
-part-store-lanes-start : tie.Need-part-store-lanes-start
-part-store-lanes-start c = omega arith
+part-hand-out-four-start : tie.Need-part-hand-out-four-start
+part-hand-out-four-start c = omega arith
 
-part-store-lanes-end : tie.Need-part-store-lanes-end
-part-store-lanes-end c = omega arith
+part-hand-out-four-end : tie.Need-part-hand-out-four-end
+part-hand-out-four-end c = omega arith
 
-store-lanes-requires : tie.Need-store-lanes-requires
-store-lanes-requires c κs = omega arith
+hand-out-four-requires : tie.Need-hand-out-four-requires
+hand-out-four-requires c κs =
+    let walked = c .before .before .before .before .before .before .before .before .walk-roots in
+    let s = c .before .before .before .before .before .before .before .before .before .before .before .before .before .before .before .before .before in
+    let len = s .args .len in
+    let u = walked .last .1 .1 .1 .0 in
+    let size : length (take (len - 0) u) ≡ len - 0 = length-take-le (len - 0) u (omega (arith, walked .kept .1 .1 .1 .0, s .pre .0 .5)) in
+    let whole : length (take (len - 0) u) ≡ len = omega (arith, size) in
+    omega (arith, s .pre, whole, ap (λ (m : ℕ). (s .args .i + 3) * m) whole)
 
 store-trees-requires : tie.Need-store-trees-requires
 store-trees-requires c κs =
-    let walked = c .before .before .before .before .before .before .before .before .before .before .before .before in
-    let s = walked .before .before .before .before .before .before .before .before in
-    let u = walked .walk-roots .kept .1 .1 .1 .0 in
-    let v = walked .walk-roots .kept .1 .1 .1 .1 .0 in
+    let walked = c .before .before .before .before .before .before .before .before .before .before .before .before .before .before .before .walk-roots in
+    let s = c .before .before .before .before .before .before .before .before .before .before .before .before .before .before .before .before .before .before .before .before .before .before .before .before in
+    let u = walked .kept .1 .1 .1 .0 in
+    let v = walked .kept .1 .1 .1 .1 .0 in
     let fits = ap (λ (m : ℕ). s .args .k * m) u in
     omega (arith, s .pre, u, v, fits)
 
@@ -48,31 +57,36 @@ same-length-3 c = omega arith
 same-length-4 : tie.Need-same-length-4
 same-length-4 c = omega arith
 
+same-length-5 : tie.Need-same-length-5
+same-length-5 c = omega arith
+
 returns : tie.Need-returns
 returns c =
-    let stored = c .before .before .before .before .before .before .before in
-    let walked = stored .before .before .before .before .before .before .before .before in
-    let s = walked .before .before .before .before .before .before .before .before in
+    let handed = c .before .before .before .before .before .before .before .before .before in
+    let walked = c .before .before .before .before .before .before .before .before .before .before .before .before .before .before .before .before .before .before in
+    let s = c .before .before .before .before .before .before .before .before .before .before .before .before .before .before .before .before .before .before .before .before .before .before .before .before .before .before .before in
     let k = s .args .k in
     let len = s .args .len in
     let roots = s .args .roots .now in
-    let batch = s .args .batch in
+    let stream = byteOf (s .args .stream) in
     let u = walked .walk-roots .last .1 .1 .1 .0 in
     let v = walked .walk-roots .last .1 .1 .1 .1 .0 in
     let long = walked .walk-roots .kept .1 .1 .1 .0 in
     let n : ℕ = length (s .args .u .now) in
     let back : len - 0 ≡ len = omega arith in
-    let size : length (take (len - 0) u) ≡ len = length-take-le (len - 0) u (omega (arith, long, s .pre .0 .5)) ∙ back in (
-      stored .store-lanes .ensures
-          ∙ ap (λ (m : ℕ). concat 4 (λ l. laneBytes l (m / 4) (take (len - 0) u))) size
-          ∙ ap (λ (m : ℕ). concat 4 (λ l. laneBytes l (len / 4) (take m u))) back
-          ∙ concat-same 4 (λ l. laneBytes l (len / 4) (take len u)) (λ i. uOf k batch len (rootOf roots i))
-          (λ l h. walked .walk-roots .ensures .0 len l (s .pre .0 .1) (s .pre .0 .5) h),
+    let size : length (take (len - 0) u) ≡ len = length-take-le (len - 0) u (omega (arith, long, s .pre .0 .5)) ∙ back in
+    let xs : List ℕ = s .args .choices .now ++ s .args .correction .now in (
+      handed .hand-out-four .ensures
+          ∙ ap (λ (m : ℕ). put xs (s .args .i * m) (concat 4 (λ l. laneBytes l (m / 4) (take (len - 0) u)))) size
+          ∙ ap (λ (m : ℕ). put xs (s .args .i * len) (concat 4 (λ l. laneBytes l (len / 4) (take m u)))) back
+          ∙ ap (put xs (s .args .i * len))
+          (concat-same 4 (λ l. laneBytes l (len / 4) (take len u)) (λ i. uOf k stream len (rootOf roots i))
+          (λ l h. walked .walk-roots .ensures .0 len l (s .pre .0 .1) (s .pre .0 .5) h)),
       c .before .before .store-trees .ensures
           ∙ ap (λ (m : ℕ). concat 4 (λ l. concat k (λ b. laneBytes l (len / 4) (part (b * m) len v)))) long
-          ∙ concat-same 4 (λ l. concat k (λ b. laneBytes l (len / 4) (part (b * n) len v))) (λ i. concat k (receiverColumn k batch len (rootOf roots i)))
+          ∙ concat-same 4 (λ l. concat k (λ b. laneBytes l (len / 4) (part (b * n) len v))) (λ i. concat k (receiverColumn k stream len (rootOf roots i)))
           (λ l h.
-          concat-same k (λ b. laneBytes l (len / 4) (part (b * n) len v)) (receiverColumn k batch len (rootOf roots l))
+          concat-same k (λ b. laneBytes l (len / 4) (part (b * n) len v)) (receiverColumn k stream len (rootOf roots l))
           (λ b hb. walked .walk-roots .ensures .1 len l b (s .pre .0 .1) (s .pre .0 .5) h hb)),
     )
 
@@ -81,13 +95,14 @@ four-trees-spec =
     tie.close
     (tie.spec
     walk-roots-requires
-    sub-store-lanes
-    part-store-lanes-start
-    part-store-lanes-end
-    store-lanes-requires
+    sub-hand-out-four
+    part-hand-out-four-start
+    part-hand-out-four-end
+    hand-out-four-requires
     store-trees-requires
     same-length
     same-length-2
     same-length-3
     same-length-4
+    same-length-5
     returns)

@@ -1,14 +1,16 @@
 -- `receiver_columns::start` meets its contract: it lends its work space, and adds the choices to the sums. Assumes nothing.
-use mathlib.Core.Path.{sym, ap, _∙_}
+use mathlib.Core.Path.{_≡_, refl, sym, ap, _∙_}
+use mathlib.Core.List.{List}
 use Prim.Native.Nat.{ℕ, suc, _-_, _*_, _≤_}
 use native.Mathlib.Omega.{arith}
 use lib.ListN.{length}
-use Rattle.sizes.specs.Sizes.{treesOf}
-use Rattle.tree.specs.Layout.{rootOf}
-use Rattle.columns.specs.Columns.{uOf, correctionOf}
 use Rattle.words.proofs.Lists.{cut-length}
+use Rattle.tree.specs.Layout.{rootOf}
+use Rattle.tree.specs.Streams.{byteOf}
+use Rattle.tree.proofs.TreesFit.{few-trees}
+use Rattle.columns.specs.Columns.{uOf, correctionOf}
 use Rattle.columns.proofs.Tables.{columns-fit}
-use Rattle.receiver_columns.proofs.Starts.{u-length, whole, corrected}
+use Rattle.receiver_columns.proofs.Starts.{u-length, choices-are, corrected}
 use Rattle.receiver_columns.proofs.start.Statement.{statement}
 use Rattle.receiver_columns.proofs.start.Tie as tie
 
@@ -20,14 +22,12 @@ mul-size c =
     let r = c .room in
     let s = c .before .before .before .before .before in
     let k = s .args .k in
-    let len : ℕ = length (s .args .choices .now) in
-    let w = whole k len len (s .pre .0) (s .pre .4) (omega arith) in
     let short : r .result ≤ 128 = omega (arith, r .ensures, s .pre .4) in
-    let size = columns-fit k (r .result) (w .low) short in
+    let size = columns-fit k (r .result) (s .pre .0 .3) short in
     omega (arith, size)
 
-sub-all-trees : tie.Need-sub-all-trees
-sub-all-trees c = omega arith
+sub-trees : tie.Need-sub-trees
+sub-trees c = omega arith
 
 part-u-start : tie.Need-part-u-start
 part-u-start c = omega arith
@@ -35,8 +35,8 @@ part-u-start c = omega arith
 part-u-end : tie.Need-part-u-end
 part-u-end c = omega arith
 
-sub-all-trees-2 : tie.Need-sub-all-trees-2
-sub-all-trees-2 c = omega arith
+sub-trees-2 : tie.Need-sub-trees-2
+sub-trees-2 c = omega arith
 
 part-v-start : tie.Need-part-v-start
 part-v-start c = omega arith
@@ -46,25 +46,21 @@ part-v-end c =
     let r = c .before .room in
     let s = c .before .before .before .before .before .before in
     let k = s .args .k in
-    let len : ℕ = length (s .args .choices .now) in
-    let w = whole k len len (s .pre .0) (s .pre .4) (omega arith) in
     let short : r .result ≤ 128 = omega (arith, r .ensures, s .pre .4) in
-    let size = columns-fit k (r .result) (w .low) short in
+    let size = columns-fit k (r .result) (s .pre .0 .3) short in
     omega (arith, size)
 
-all-trees-requires : tie.Need-all-trees-requires
-all-trees-requires c κs =
+trees-requires : tie.Need-trees-requires
+trees-requires c κs =
     let r = c .before .before .before .before .before .room in
     let s = c .before .before .before .before .before .before .before .before .before .before in
     let k = s .args .k in
-    let len : ℕ = length (s .args .choices .now) in
-    let w = whole k len len (s .pre .0) (s .pre .4) (omega arith) in
     let short : r .result ≤ 128 = omega (arith, r .ensures, s .pre .4) in
-    let size = columns-fit k (r .result) (w .low) short in
+    let size = columns-fit k (r .result) (s .pre .0 .3) short in
     let u = cut-length (r .result) 128 short in
     let v = cut-length (k * r .result) 1024 size in (
       (
-        s .pre .0,
+        s .pre .0 .3,
         omega (arith, s .pre .2),
         s .pre .3,
         omega (arith, u, r .ensures),
@@ -72,33 +68,20 @@ all-trees-requires c κs =
         omega (arith, u, r .ensures),
         v ∙ ap (λ (m : ℕ). k * m) (sym u),
       ),
-      (s .pre .1, s .pre .5, s .pre .6),
+      (s .pre .0, s .pre .1, refl, s .pre .6, s .pre .5),
     )
 
-div-xor-parts : tie.Need-div-xor-parts
-div-xor-parts c =
-    let s = c .before .before .before .before .before .before .before .before .before .before .before .before .before .before .before .before .before .before .before .before in
-    let len : ℕ = length (s .args .choices .now) in
-    let w = whole (s .args .k) len len (s .pre .0) (s .pre .4) (omega arith) in
-    w .some
-
 sub-xor-parts : tie.Need-sub-xor-parts
-sub-xor-parts c =
-    let s = c .before .before .before .before .before .before .before .before .before .before .before .before .before .before .before .before .before .before .before .before in
-    let len : ℕ = length (s .args .choices .now) in
-    let w = whole (s .args .k) len len (s .pre .0) (s .pre .4) (omega arith) in
-    omega (arith, w .many)
+sub-xor-parts c = omega (arith, c .before .before .before .before .before .before .before .before .before .before .before .before .before .before .before .before .before .before .before .before .pre .0)
 
 xor-parts-requires : tie.Need-xor-parts-requires
 xor-parts-requires c κs =
     let s = c .before .before .before .before .before .before .before .before .before .before .before .before .before .before .before .before .before .before .before .before .before in
-    let len : ℕ = length (s .args .choices .now) in
-    let w = whole (s .args .k) len len (s .pre .0) (s .pre .4) (omega arith) in
-    let did = c .before .before .before .before .before .before .before .before .before .before .all-trees in
-    let long = did .kept .1 .1 .1 .1 .1 .0 in (
-      omega (arith, w .trees),
-      omega (arith, long, w .short),
-      did .kept .1 .1 .1 .1 .1 .1 .1 .0 ∙ s .pre .6 ∙ ap (λ (m : ℕ). (treesOf (s .args .k) - 1) * m) (sym long),
+    let did = c .before .before .before .before .before .before .before .before .before .before .trees in
+    let long = did .kept .1 .1 .1 .1 .1 .1 .1 .0 in (
+      omega (arith, few-trees (s .args .n) (s .args .k) (s .pre .0)),
+      omega (arith, long, s .pre .4),
+      did .kept .1 .1 .1 .1 .1 .1 .1 .1 .0 ∙ s .pre .6 ∙ ap (λ (m : ℕ). (s .args .n - 1) * m) (sym long),
     )
 
 same-length : tie.Need-same-length
@@ -113,18 +96,21 @@ same-length-3 c = omega arith
 returns : tie.Need-returns
 unfolding correctionOf
 returns c =
-    let did = c .before .before .before .before .before .before .before .before .before .before .before .before .before .all-trees in
+    let did = c .before .before .before .before .before .before .before .before .before .before .before .before .before .trees in
     let s = c .before .before .before .before .before .before .before .before .before .before .before .before .before .before .before .before .before .before .before .before .before .before .before .before in
     let k = s .args .k in
-    let batch = s .args .batch in
+    let n = s .args .n in
+    let stream = byteOf (s .args .stream) in
     let roots = s .args .roots .now in
-    let len : ℕ = length (s .args .choices .now) in (
-      did .ensures .0,
+    let len : ℕ = length (s .args .choices .now) in
+    let f : ℕ → List ℕ = λ i. uOf k stream len (rootOf roots i) in
+    let apart = choices-are f n len _ _ (s .pre .0 .0) (λ i. u-length k stream len (rootOf roots i)) (did .kept .1 .1 .1 .1 .1 .1 .1 .0) (did .ensures .0) in (
+      apart .0,
       (
-        did .ensures .1 .0,
+        did .ensures .1,
         c .before .before .xor-parts .ensures
-            ∙ corrected (treesOf k - 1) len (λ i. uOf k batch len (rootOf roots (suc i))) (λ i. u-length k batch len (rootOf roots (suc i))) _ _
-            (uOf k batch len (rootOf roots 0)) (did .ensures .0) (u-length k batch len (rootOf roots 0)) (did .ensures .1 .1),
+            ∙ corrected (n - 1) len (λ i. f (suc i)) (λ i. u-length k stream len (rootOf roots (suc i))) _ _
+            (f 0) (apart .0) (u-length k stream len (rootOf roots 0)) (apart .1),
       ),
     )
 
@@ -134,14 +120,13 @@ start-spec =
     (tie.spec
     room-requires
     mul-size
-    sub-all-trees
+    sub-trees
     part-u-start
     part-u-end
-    sub-all-trees-2
+    sub-trees-2
     part-v-start
     part-v-end
-    all-trees-requires
-    div-xor-parts
+    trees-requires
     sub-xor-parts
     xor-parts-requires
     same-length

@@ -46,8 +46,8 @@ returns c =
     let n : ℕ = length (s .args .u .now) in
     let zero = u .clear .ensures in
     let zero₂ = v .clear2 .ensures ∙ ap (λ (m : ℕ). replicate m 0) (s .pre .4) in (
-      u-walked k (s .args .batch) n (s .args .roots .now) _ (load .load-lanes .ensures) _ zero _ (walked .walk .ensures .0),
-      column-walked k (s .args .batch) n (s .args .roots .now) _ (load .load-lanes .ensures) _ zero _ _ zero₂ (walked .walk .ensures .1),
+      u-walked k (s .args .stream) n (s .args .roots .now) _ (load .load-lanes .ensures) _ zero _ (walked .walk .ensures .0),
+      column-walked k (s .args .stream) n (s .args .roots .now) _ (load .load-lanes .ensures) _ zero _ _ zero₂ (walked .walk .ensures .1),
     )
 
 pub walk-roots-spec : {M : Type 1} → statement M

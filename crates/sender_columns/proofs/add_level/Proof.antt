@@ -12,6 +12,7 @@ use Rattle.tree.specs.Lanes.{uWord, columnWord}
 use Rattle.words.proofs.Concat.{place-fits}
 use Rattle.words.proofs.Lists.{tabulate-lt, xorEach-length, xorEach-cong}
 use Rattle.words.proofs.Parts.{part-added, xorPart-length}
+use Rattle.tree.specs.Streams.{wordOf}
 use Rattle.sender_columns.proofs.Masked.{every-side, every-lane}
 use Rattle.sender_columns.proofs.add_level.Statement.{statement}
 use Rattle.sender_columns.proofs.add_level.Tie as tie
@@ -109,9 +110,9 @@ walked : (c : tie.After-walk)
     let r = s .args .k - 1 - s .args .level in
     let nodes = part (32 * s .args .level) 32 (now (s .args .s)) in
     let v = xorPart (now (s .args .v)) (r * length u) (length u) (ofSide (s .args .k) (s .args .level) (now (s .args .sides)) u) in
-    (c .walk .last .1 .1 .1 .0 ≡ xorEach u (uWord (s .args .batch) r nodes))
+    (c .walk .last .1 .1 .1 .0 ≡ xorEach u (uWord (wordOf (s .args .stream)) r nodes))
     × (length (c .walk .last .1 .1 .1 .0) ≡ length u)
-    × (c .walk .last .1 .1 .1 .1 .0 ≡ xorEach v (columnWord (s .args .batch) (length u) r nodes))
+    × (c .walk .last .1 .1 .1 .1 .0 ≡ xorEach v (columnWord (wordOf (s .args .stream)) (length u) r nodes))
     × (length (c .walk .last .1 .1 .1 .1 .0) ≡ length (now (s .args .v)))
 walked c =
     let s = c .before .before .before .before .before .before .before .before .before .before .before .before .before .before .before in
@@ -121,8 +122,8 @@ walked c =
     let nodes = part (32 * s .args .level) 32 (now (s .args .s)) in
     let first = added (c .before .before .before .before .before .before .before) in
     let found = c .before .before .before .before .nodes-at .ensures in
-    let made = c .walk .ensures .0 ∙ ap (λ (m : List ℕ). xorEach u (uWord (s .args .batch) r m)) found in
-    let columns = c .walk .ensures .1 ∙ ap₂ (λ (m z : List ℕ). xorEach z (columnWord (s .args .batch) n r m)) found (first .0) in (
+    let made = c .walk .ensures .0 ∙ ap (λ (m : List ℕ). xorEach u (uWord (wordOf (s .args .stream)) r m)) found in
+    let columns = c .walk .ensures .1 ∙ ap₂ (λ (m z : List ℕ). xorEach z (columnWord (wordOf (s .args .stream)) n r m)) found (first .0) in (
       made,
       ap length made ∙ xorEach-length u _,
       columns,

@@ -10,25 +10,27 @@ use Rattle.words.specs.Bytes.{tabulate, part}
 use Rattle.words.specs.Xor.{xorEach, xorPart}
 use Rattle.tree.specs.Lanes.{columnWord}
 use Rattle.words.proofs.Lists.{tabulate-at}
+use Rattle.tree.specs.declared.Stream.{Stream}
+use Rattle.tree.specs.Streams.{wordOf}
 use Rattle.sender_columns.specs.Lanes.{SidesAre}
 use Rattle.sender_columns.proofs.Reached.{Reached, reached-none, reached-next, reached-column}
 use Rattle.sender_columns.proofs.add_levels.Statement.{statement}
 use Rattle.sender_columns.proofs.add_levels.Tie as tie
 
 abbrev Inv-loop : tie.InvT-loop
-Inv-loop k batch sides s u₀ v₀ level₀ u v level =
+Inv-loop k stream sides s u₀ v₀ level₀ u v level =
     (level ≤ k)
     × (length u ≡ length u₀)
     × (length v ≡ k * length u₀)
-    × ((d : ℕ → ℕ) → SidesAre k sides d → Reached k batch (length u₀) d s u₀ level u v)
+    × ((d : ℕ → ℕ) → SidesAre k sides d → Reached k stream (length u₀) d s u₀ level u v)
 
 abbrev μ-loop : tie.MeasureT-loop
-μ-loop k batch sides s u₀ v₀ level₀ u v level = k - level
+μ-loop k stream sides s u₀ v₀ level₀ u v level = k - level
 
 loop-holds : tie.Need-loop-holds Inv-loop μ-loop
 loop-holds c =
     let s = c .before .before .before .before in
-    (omega arith, refl, s .pre .1 .3, λ d h. reached-none (s .args .k) (s .args .batch) _ d _ _ _ refl (s .pre .1 .3) (s .pre .1 .4))
+    (omega arith, refl, s .pre .1 .3, λ d h. reached-none (s .args .k) (s .args .stream) _ d _ _ _ refl (s .pre .1 .3) (s .pre .1 .4))
 
 add-level-requires : tie.Need-add-level-requires Inv-loop μ-loop
 add-level-requires c κs =
@@ -39,10 +41,10 @@ add-level-requires c κs =
     )
 
 -- v after one level, where a column has n words
-abbrev after : ℕ → ℕ → ℕ → ℕ → List ℕ → List ℕ → List ℕ → List ℕ → List ℕ → List ℕ
-after k batch level n sides s u v u′ =
+abbrev after : ℕ → Stream → ℕ → ℕ → List ℕ → List ℕ → List ℕ → List ℕ → List ℕ → List ℕ
+after k stream level n sides s u v u′ =
     xorPart
-    (xorEach (xorPart v ((k - 1 - level) * n) n (λ i. getD sides (i % 4) 0 * getD u i 0)) (columnWord batch n (k - 1 - level) (part (32 * level) 32 s)))
+    (xorEach (xorPart v ((k - 1 - level) * n) n (λ i. getD sides (i % 4) 0 * getD u i 0)) (columnWord (wordOf stream) n (k - 1 - level) (part (32 * level) 32 s)))
     ((k - 1 - level) * n) n (λ i. getD u′ i 0)
 
 add-level : tie.Need-add-level Inv-loop μ-loop
@@ -62,11 +64,11 @@ loop-again c =
       f .kept .1 .1 .1 .1 .1 .0 ∙ w .inv .1,
       f .kept .1 .1 .1 .1 .1 .1 .0 ∙ w .inv .2,
       λ d h.
-          reached-next k (s .args .batch) (length (now (s .args .u))) d (now (s .args .s)) (now (s .args .u)) sides (w .level) (w .u) (w .v) _ _
+          reached-next k (s .args .stream) (length (now (s .args .u))) d (now (s .args .s)) (now (s .args .u)) sides (w .level) (w .u) (w .v) _ _
           (c .before .before .before .before .before .before .before .loop-test .taken) (λ i lt. h i lt .0)
           (λ i lt. tabulate-at 4 (λ j. getD (now (s .args .sides)) (j * k + w .level) 0) i lt ∙ h i lt .1 (w .level) (c .before .before .before .before .before .before .before .loop-test .taken))
           (w .inv .3 d h) (f .ensures .0)
-          (f .ensures .1 ∙ ap (λ (n : ℕ). after k (s .args .batch) (w .level) n sides (now (s .args .s)) (w .u) (w .v) (f .last .1 .1 .1 .1 .1 .0)) (w .inv .1)),
+          (f .ensures .1 ∙ ap (λ (n : ℕ). after k (s .args .stream) (w .level) n sides (now (s .args .s)) (w .u) (w .v) (f .last .1 .1 .1 .1 .1 .0)) (w .inv .1)),
     )
 
 same-length : tie.Need-same-length Inv-loop μ-loop
@@ -80,8 +82,8 @@ returns c d h len i b four cut hi hb =
     let s = c .before .before .before .before .before .before in
     let w = c .before .loop in
     let all : w .level ≡ s .args .k = omega (arith, w .inv .0, c .loop-test .left) in
-    reached-column (s .args .k) (s .args .batch) (length (now (s .args .u))) len d (now (s .args .s)) (now (s .args .u)) (w .u) (w .v) _ _ i b hi hb four cut
-    refl (subst (λ (l : ℕ). Reached (s .args .k) (s .args .batch) (length (now (s .args .u))) d (now (s .args .s)) (now (s .args .u)) l (w .u) (w .v)) all (w .inv .3 d h)) refl
+    reached-column (s .args .k) (s .args .stream) (length (now (s .args .u))) len d (now (s .args .s)) (now (s .args .u)) (w .u) (w .v) _ _ i b hi hb four cut
+    refl (subst (λ (l : ℕ). Reached (s .args .k) (s .args .stream) (length (now (s .args .u))) d (now (s .args .s)) (now (s .args .u)) l (w .u) (w .v)) all (w .inv .3 d h)) refl
 
 pub add-levels-spec : {M : Type 1} → statement M
 add-levels-spec =

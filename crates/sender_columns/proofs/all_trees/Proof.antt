@@ -1,95 +1,89 @@
 -- `sender_columns::all_trees` meets its contract: the table begins with the columns of the first i trees. Assumes nothing.
 use mathlib.Core.Path.{_≡_, refl, sym, ap, _∙_, subst}
 use mathlib.Core.List.{List}
-use denote.Ref.{now}
 use Prim.Native.Nat.{ℕ, _+_, _-_, _*_, _%_, _≤_}
-use native.Mathlib.Nat.{mul-le-mul-right, mul-assoc}
+use native.Mathlib.Nat.{mul-assoc, mul-left-comm, mul-le-mul-right}
 use native.Mathlib.Omega.{arith}
+use denote.Ref.{now}
 use lib.ListN.{length}
-use borrow.Rule.Slice.PartMut.{mid-len}
-use Rattle.words.specs.Bytes.{concat, part}
-use Rattle.words.proofs.Concat.{concat-same, concat-length, part-length, part-lt, place-part}
-use Rattle.sizes.specs.Sizes.{columns, treesOf}
-use Rattle.tree.specs.Layout.{deltaOf, treePart}
-use Rattle.sizes.proofs.Widths.{width-fits, four-fit}
-use Rattle.tree.proofs.Sides.{sides-length, sides-lt}
-use Rattle.columns.specs.Columns.{senderColumn, senderTable, tableOf, treeCorrection}
-use Rattle.sender_columns.specs.Lanes.{SidesAre}
+use borrow.Rule.Slice.PartMut.{mid-len, same-len-mid}
+use Rattle.words.specs.Bytes.{part, concat}
+use Rattle.words.proofs.Concat.{part-length, part-lt, place-part, concat-same, concat-length}
 use Rattle.words.proofs.Layouts.{Laid, laid-none, laid-more, laid-all}
+use Rattle.tree.specs.Layout.{deltaOf, treePart}
+use Rattle.tree.specs.Sides.{sidesOf}
+use Rattle.tree.specs.Streams.{byteOf}
+use Rattle.tree.proofs.TreesFit.{few-trees, four-fit}
+use Rattle.columns.specs.Columns.{senderColumn, senderTable, tableOf, treeCorrection}
 use Rattle.columns.proofs.Tables.{senderColumn-length}
+use Rattle.sender_columns.specs.Lanes.{SidesAre}
 use Rattle.sender_columns.proofs.Groups.{four-sides}
 use Rattle.sender_columns.proofs.all_trees.Statement.{statement}
 use Rattle.sender_columns.proofs.all_trees.Tie as tie
 
 -- the columns of tree i
-abbrev treeColumns : ℕ → ℕ → ℕ → List ℕ → List ℕ → List ℕ → ℕ → List ℕ
-treeColumns k len batch siblings delta correction i =
-    concat k (senderColumn k batch len (treePart k 32 i siblings) (deltaOf k delta i) (treeCorrection len correction i))
+abbrev treeColumns : ℕ → ℕ → (ℕ → List ℕ → ℕ) → List ℕ → List ℕ → List ℕ → ℕ → List ℕ
+treeColumns k len stream siblings delta correction i =
+    concat k (senderColumn k stream len (treePart k 32 i siblings) (deltaOf k delta i) (treeCorrection len correction i))
 
 abbrev Inv-loop : tie.InvT-loop
-Inv-loop k len batch siblings delta correction s₀ u₀ v₀ table₀ sides n size wide i₀ s u v table i =
+Inv-loop n k len stream sides siblings correction s₀ u₀ v₀ table₀ size wide i₀ s u v table i =
     (i % 4 ≡ 0)
     × (length s ≡ 32 * k)
     × (length u ≡ length u₀)
     × (length v ≡ k * length u₀)
-    × Laid (treesOf k) (k * len) (treeColumns k len batch siblings delta correction) i table
+    × (length table ≡ n * (k * len))
+    × ((delta : List ℕ) → sides ≡ sidesOf (n * k) k delta → Laid n (k * len) (treeColumns k len (byteOf stream) siblings delta correction) i table)
 
 abbrev μ-loop : tie.MeasureT-loop
-μ-loop k len batch siblings delta correction s₀ u₀ v₀ table₀ sides n size wide i₀ s u v table i = treesOf k - i
-
-all-requires : tie.Need-all-requires Inv-loop μ-loop
-all-requires c κs = (c .before .before .before .before .before .before .before .pre .0 .0, c .before .before .before .before .before .before .before .pre .0 .2)
-
-div-n : tie.Need-div-n Inv-loop μ-loop
-div-n c = omega (arith, width-fits _ (c .before .before .before .before .before .before .before .before .pre .0 .0) .some)
+μ-loop n k len stream sides siblings correction s₀ u₀ v₀ table₀ size wide i₀ s u v table i = n - i
 
 mul-size : tie.Need-mul-size Inv-loop μ-loop
-mul-size c = omega (arith, width-fits _ (c .before .before .before .before .before .before .before .before .pre .0 .0) .low)
+mul-size c = omega (arith, c .before .before .before .before .before .before .before .pre .0 .0)
 
 mul-wide : tie.Need-mul-wide Inv-loop μ-loop
 mul-wide c =
-    let s = c .before .before .before .before .before .before .before .before in
-    omega (arith, mul-le-mul-right (s .args .len) (width-fits _ (s .pre .0 .0) .low), s .pre .1 .5, s .pre .1 .2)
+    let s = c .before .before .before .before .before .before .before in
+    omega (arith, mul-le-mul-right (s .args .len) (s .pre .0 .0 .3), s .pre .1 .5, s .pre .1 .2)
 
 loop-holds : tie.Need-loop-holds Inv-loop μ-loop
 loop-holds c =
-    let s = c .before .before .before .before .before .before .before .before in
-    let k = s .args .k in
-    let whole : length (now (s .args .table)) ≡ treesOf k * (k * s .args .len) =
-    s .pre .0 .4 ∙ ap (λ (n : ℕ). n * s .args .len) (sym (width-fits k (s .pre .0 .0) .columns)) ∙ mul-assoc (treesOf k) k (s .args .len) in
-    (omega arith, s .pre .1 .0, refl, s .pre .1 .4, laid-none (treesOf k) (k * s .args .len) _ (now (s .args .table)) whole)
-
--- there are 128 sides
-long : (c : tie.After-all Inv-loop μ-loop) → length (c .all .result) ≡ 128
-long c =
-    let s = c .before .before .before .before .before .before .before .before in
-    ap length (c .all .ensures) ∙ sides-length (s .args .k) (now (s .args .delta))
+    let s = c .before .before .before .before .before .before .before in (
+      omega arith,
+      s .pre .1 .0,
+      refl,
+      s .pre .1 .4,
+      s .pre .0 .5,
+      λ delta e. laid-none (s .args .n) (s .args .k * s .args .len) _ (now (s .args .table)) (s .pre .0 .5),
+    )
 
 -- four trees from tree i on are within the sides, the siblings, the corrections and the table
-abbrev Room : ℕ → ℕ → ℕ → Type 0
-Room k len i =
-    ((i + 4 ≤ treesOf k) × (treesOf k ≤ 128) × (k ≤ 8) × (len ≤ 128))
-    × (((i + 4) * k ≡ i * k + 4 * k) × ((i + 4) * k ≤ 128))
-    × (((i + 4) * (32 * k) ≡ i * (32 * k) + 4 * (32 * k)) × ((i + 4) * (32 * k) ≤ 4096))
-    × (((i + 4) * (k * len) ≡ i * (k * len) + 4 * (k * len)) × ((i + 4) * (k * len) ≤ 128 * len))
-    × ((i + 3) * len ≤ (treesOf k - 1) * len)
+abbrev Room : ℕ → ℕ → ℕ → ℕ → Type 0
+Room n k len i =
+    ((i + 4 ≤ n) × (n ≤ 128) × (k ≤ 8) × (len ≤ 128))
+    × (((i + 4) * k ≡ i * k + 4 * k) × ((i + 4) * k ≤ n * k) × (n * k ≤ 128))
+    × (((i + 4) * (32 * k) ≡ i * (32 * k) + 4 * (32 * k)) × ((i + 4) * (32 * k) ≤ n * (32 * k)) × (n * (32 * k) ≤ 4096))
+    × (((i + 4) * (k * len) ≡ i * (k * len) + 4 * (k * len)) × ((i + 4) * (k * len) ≤ n * (k * len)) × (n * (k * len) ≤ 16384))
+    × ((i + 3) * len ≤ (n - 1) * len)
 
-room : (c : tie.In-loop Inv-loop μ-loop) → Room (c .before .before .before .before .before .before .before .before .before .before .args .k) (c .before .before .before .before .before .before .before .before .before .before .args .len) (c .before .loop .i)
+room : (c : tie.In-loop Inv-loop μ-loop) → (let s = c .before .before .before .before .before .before .before .before .before in Room (s .args .n) (s .args .k) (s .args .len) (c .before .loop .i))
 room c =
-    let s = c .before .before .before .before .before .before .before .before .before .before in
+    let s = c .before .before .before .before .before .before .before .before .before in
+    let n = s .args .n in
     let k = s .args .k in
     let len = s .args .len in
     let i = c .before .loop .i in
-    let fits = width-fits k (s .pre .0 .0) in
-    let sides = four-fit k i fits (c .before .loop .inv .0) (c .loop-test .taken) k in
-    let nodes = four-fit k i fits (c .before .loop .inv .0) (c .loop-test .taken) (32 * k) in
-    let table = four-fit k i fits (c .before .loop .inv .0) (c .loop-test .taken) (k * len) in
-    let whole : treesOf k * (k * len) ≡ 128 * len = sym (mul-assoc (treesOf k) k len) ∙ ap (λ (n : ℕ). n * len) (fits .columns) in (
-      (sides .0, fits .trees, fits .low, omega (arith, s .pre .1 .2, s .pre .1 .5)),
-      (sides .1, omega (arith, sides .2, fits .columns)),
-      (nodes .1, omega (arith, nodes .2, fits .single)),
-      (table .1, omega (arith, table .2, whole)),
-      mul-le-mul-right len (omega (arith, sides .0)),
+    let trees = s .pre .0 .0 in
+    let sides = four-fit n i (trees .1) (c .before .loop .inv .0) (c .loop-test .taken) k in
+    let nodes = four-fit n i (trees .1) (c .before .loop .inv .0) (c .loop-test .taken) (32 * k) in
+    let table = four-fit n i (trees .1) (c .before .loop .inv .0) (c .loop-test .taken) (k * len) in
+    let short : len ≤ 128 = omega (arith, s .pre .1 .2, s .pre .1 .5) in
+    let next : i + 3 ≤ n - 1 = omega (arith, sides .0) in (
+      (sides .0, few-trees n k trees, trees .3, short),
+      (sides .1, sides .2, trees .4),
+      (nodes .1, nodes .2, omega (arith, mul-left-comm n 32 k, trees .4)),
+      (table .1, table .2, omega (arith, sym (mul-assoc n k len), mul-le-mul-right len (trees .4), short)),
+      mul-le-mul-right len next,
     )
 
 add-next : tie.Need-add-next Inv-loop μ-loop
@@ -113,61 +107,55 @@ mul-start c = omega (arith, room c)
 mul-end : tie.Need-mul-end Inv-loop μ-loop
 mul-end c = omega (arith, room c)
 
-sub-trees-from : tie.Need-sub-trees-from Inv-loop μ-loop
-sub-trees-from c = omega (arith, room c)
+sub-four-trees : tie.Need-sub-four-trees Inv-loop μ-loop
+sub-four-trees c = omega (arith, room c)
 
-part-trees-from-start : tie.Need-part-trees-from-start Inv-loop μ-loop
-part-trees-from-start c = omega (arith, room (c .before))
+part-four-trees-start : tie.Need-part-four-trees-start Inv-loop μ-loop
+part-four-trees-start c = omega (arith, room c)
 
-part-trees-from-end : tie.Need-part-trees-from-end Inv-loop μ-loop
-part-trees-from-end c = omega (arith, room (c .before), long (c .before .before .before))
+part-four-trees-end : tie.Need-part-four-trees-end Inv-loop μ-loop
+part-four-trees-end c = omega (arith, room c, c .before .before .before .before .before .before .before .before .before .pre .0)
 
-sub-trees-from-2 : tie.Need-sub-trees-from-2 Inv-loop μ-loop
-sub-trees-from-2 c = omega (arith, room (c .before .before))
+sub-four-trees-2 : tie.Need-sub-four-trees-2 Inv-loop μ-loop
+sub-four-trees-2 c = omega (arith, room (c .before), c .before .before .before .before .before .before .before .before .before .before .pre .0)
 
-part-trees-from-start-2 : tie.Need-part-trees-from-start-2 Inv-loop μ-loop
-part-trees-from-start-2 c = omega (arith, room (c .before .before))
+part-four-trees-start-2 : tie.Need-part-four-trees-start-2 Inv-loop μ-loop
+part-four-trees-start-2 c = omega (arith, room (c .before), c .before .before .before .before .before .before .before .before .before .before .pre .0)
 
-part-trees-from-end-2 : tie.Need-part-trees-from-end-2 Inv-loop μ-loop
-part-trees-from-end-2 c = omega (arith, room (c .before .before), c .before .before .before .before .before .before .before .before .before .before .before .before .pre .0 .1)
+part-four-trees-end-2 : tie.Need-part-four-trees-end-2 Inv-loop μ-loop
+part-four-trees-end-2 c = omega (arith, room (c .before), c .before .before .before .before .before .before .before .before .before .before .pre .0)
 
-sub-trees-from-3 : tie.Need-sub-trees-from-3 Inv-loop μ-loop
-sub-trees-from-3 c = omega (arith, room (c .before .before .before .before .before .before))
+sub-four-trees-3 : tie.Need-sub-four-trees-3 Inv-loop μ-loop
+sub-four-trees-3 c = omega (arith, room (c .before .before .before .before .before), c .before .before .before .before .before .before .loop .inv .4)
 
-part-trees-from-start-3 : tie.Need-part-trees-from-start-3 Inv-loop μ-loop
-part-trees-from-start-3 c = omega (arith, room (c .before .before .before .before .before .before))
+part-four-trees-start-3 : tie.Need-part-four-trees-start-3 Inv-loop μ-loop
+part-four-trees-start-3 c = omega (arith, room (c .before .before .before .before .before), c .before .before .before .before .before .before .loop .inv .4)
 
-part-trees-from-end-3 : tie.Need-part-trees-from-end-3 Inv-loop μ-loop
-part-trees-from-end-3 c =
-    let s = c .before .before .before .before .before .before .before .before .before .before .before .before .before .before .before .before in
-    let k = s .args .k in
-    let whole = mul-assoc (treesOf k) k (s .args .len) in
-    omega (arith, room (c .before .before .before .before .before .before), c .before .before .before .before .before .before .before .loop .inv .4 .len, whole, ap (λ (n : ℕ). n * s .args .len) (width-fits k (s .pre .0 .0) .columns))
+part-four-trees-end-3 : tie.Need-part-four-trees-end-3 Inv-loop μ-loop
+part-four-trees-end-3 c = omega (arith, room (c .before .before .before .before .before), c .before .before .before .before .before .before .loop .inv .4)
 
-trees-from-requires : tie.Need-trees-from-requires Inv-loop μ-loop
-trees-from-requires c κs =
-    let s = c .before .before .before .before .before .before .before .before .before .before .before .before .before .before .before .before .before in
-    let w = c .before .before .before .before .before .before .before .before .loop in
-    let here = room (c .before .before .before .before .before .before .before) in
+four-trees-requires : tie.Need-four-trees-requires Inv-loop μ-loop
+four-trees-requires c κs =
+    let s = c .before .before .before .before .before .before .before .before .before .before .before .before .before .before .before in
+    let w = c .before .before .before .before .before .before .before .loop in
+    let here = room (c .before .before .before .before .before .before) in
     let k = s .args .k in
     let len = s .args .len in
-    let sides = c .before .before .before .before .before .before .before .before .before .all in
+    let sides = now (s .args .sides) in
     let a : ℕ = w .i * k in
     let b : ℕ = w .i * (32 * k) in
     let e : ℕ = w .i * (k * len) in
     let some : (w .i + 4) * k - a ≡ 4 * k = omega (arith, here) in
     let nodes : (w .i + 4) * (32 * k) - b ≡ 4 * (32 * k) = omega (arith, here) in
-    let cells : (w .i + 4) * (k * len) - e ≡ 4 * (k * len) = omega (arith, here) in
-    let whole = mul-assoc (treesOf k) k len in
-    let all = ap (λ (n : ℕ). n * len) (width-fits k (s .pre .0 .0) .columns) in (
+    let cells : (w .i + 4) * (k * len) - e ≡ 4 * (k * len) = omega (arith, here) in (
       (
         here .0 .2,
-        part-length a ((w .i + 4) * k - a) (sides .result) (omega (arith, here, long (c .before .before .before .before .before .before .before .before .before))) ∙ some,
-        part-lt a ((w .i + 4) * k - a) (sides .result) 2 (omega arith) (λ j. rw (sides .ensures) (sides-lt k (now (s .args .delta)) j)),
-        part-length b ((w .i + 4) * (32 * k) - b) (now (s .args .siblings)) (omega (arith, here, s .pre .0 .1)) ∙ nodes,
+        part-length a ((w .i + 4) * k - a) sides (omega (arith, here, s .pre .0 .1)) ∙ some,
+        part-lt a ((w .i + 4) * k - a) sides 2 (omega arith) (s .pre .0 .2),
+        part-length b ((w .i + 4) * (32 * k) - b) (now (s .args .siblings)) (omega (arith, here, s .pre .0 .3)) ∙ nodes,
         omega (arith, here),
-        omega (arith, here, s .pre .0 .3),
-        mid-len e ((w .i + 4) * (k * len)) (w .table) (omega (arith, here, w .inv .4 .len, whole, all)) ∙ cells,
+        omega (arith, here, s .pre .0 .4),
+        mid-len e ((w .i + 4) * (k * len)) (w .table) (omega (arith, here, w .inv .4)) ∙ cells,
       ),
       (
         w .inv .1,
@@ -181,56 +169,57 @@ trees-from-requires c κs =
     )
 
 loop-less : tie.Need-loop-less Inv-loop μ-loop
-loop-less c = omega (arith, room (c .before .before .before .before .before .before .before .before .before .before .before .before .before .before .before .before))
+loop-less c = omega (arith, room (c .before .before .before .before .before .before .before .before .before .before .before .before .before .before .before))
 
 loop-again : tie.Need-loop-again Inv-loop μ-loop
 loop-again c =
-    let s = c .before .before .before .before .before .before .before .before .before .before .before .before .before .before .before .before .before .before .before .before .before .before .before .before .before .before in
-    let w = c .before .before .before .before .before .before .before .before .before .before .before .before .before .before .before .before .before .loop in
-    let here = room (c .before .before .before .before .before .before .before .before .before .before .before .before .before .before .before .before) in
+    let s = c .before .before .before .before .before .before .before .before .before .before .before .before .before .before .before .before .before .before .before .before .before .before .before .before in
+    let w = c .before .before .before .before .before .before .before .before .before .before .before .before .before .before .before .before .loop in
+    let here = room (c .before .before .before .before .before .before .before .before .before .before .before .before .before .before .before) in
+    let n = s .args .n in
     let k = s .args .k in
     let len = s .args .len in
-    let f = c .before .before .before .before .before .before .before .before .trees-from in
-    let sides = c .before .before .before .before .before .before .before .before .before .before .before .before .before .before .before .before .before .before .all in
+    let stream = byteOf (s .args .stream) in
+    let f = c .before .before .before .before .before .before .before .before .four-trees in
+    let sides = now (s .args .sides) in
     let siblings = now (s .args .siblings) in
-    let delta = now (s .args .delta) in
     let correction = now (s .args .correction) in
-    let column : ℕ → List ℕ → ℕ → List ℕ = λ j z b. senderColumn k (s .args .batch) len z (deltaOf k delta (w .i + j)) (treeCorrection len correction (w .i + j)) b in
-    let made =
-    f .ensures (λ j. deltaOf k delta (w .i + j))
-    (subst (λ (z : List ℕ). SidesAre k (part (w .i * k) ((w .i + 4) * k - w .i * k) z) (λ j. deltaOf k delta (w .i + j))) (sym (sides .ensures))
-    (four-sides k delta (w .i) (s .pre .0 .0) (here .0 .0)))
-    ∙ concat-same 4 _ (λ j. treeColumns k len (s .args .batch) siblings delta correction (w .i + j))
-    (λ j hj. concat-same k _ _ (λ b hb. ap (λ (z : List ℕ). column j z b) (place-part (w .i) 4 j (32 * k) siblings hj))) in (
+    let e : ℕ = w .i * (k * len) in (
       omega (arith, w .inv .0),
       f .kept .1 .1 .1 .1 .1 .1 .1 .0 ∙ w .inv .1,
       f .kept .1 .1 .1 .1 .1 .1 .1 .1 .0 ∙ w .inv .2,
       f .kept .1 .1 .1 .1 .1 .1 .1 .1 .1 .0 ∙ w .inv .3,
-      laid-more (treesOf k) (k * len) (treeColumns k len (s .args .batch) siblings delta correction) (w .i) 4 (w .table) _ made
-          (λ j h. concat-length _ len k (λ b hb. senderColumn-length k (s .args .batch) len _ _ _ b)) (here .0 .0) (w .inv .4),
+      same-len-mid e ((w .i + 4) * (k * len) - e) (w .table) (f .last .1 .1 .1 .1 .1 .1 .1 .1 .1 .1 .0) (f .kept .1 .1 .1 .1 .1 .1 .1 .1 .1 .1 .0) ∙ w .inv .4,
+      λ delta q.
+          let column : ℕ → List ℕ → ℕ → List ℕ = λ j z b. senderColumn k stream len z (deltaOf k delta (w .i + j)) (treeCorrection len correction (w .i + j)) b in
+          let made =
+          f .ensures (λ j. deltaOf k delta (w .i + j))
+          (subst (λ (z : List ℕ). SidesAre k (part (w .i * k) ((w .i + 4) * k - w .i * k) z) (λ j. deltaOf k delta (w .i + j))) (sym q)
+          (four-sides n k delta (w .i) (here .0 .0)))
+          ∙ concat-same 4 _ (λ j. treeColumns k len stream siblings delta correction (w .i + j))
+          (λ j hj. concat-same k _ _ (λ b hb. ap (λ (z : List ℕ). column j z b) (place-part (w .i) 4 j (32 * k) siblings hj))) in
+          laid-more n (k * len) (treeColumns k len stream siblings delta correction) (w .i) 4 (w .table) _ made
+          (λ j h. concat-length _ len k (λ b hb. senderColumn-length k stream len _ _ _ b)) (here .0 .0) (w .inv .5 delta q),
     )
 
 same-length : tie.Need-same-length Inv-loop μ-loop
-same-length c = c .before .loop .inv .1 ∙ sym (c .before .before .before .before .before .before .before .before .before .before .pre .1 .0)
+same-length c = c .before .loop .inv .1 ∙ sym (c .before .before .before .before .before .before .before .before .before .pre .1 .0)
 
 same-length-2 : tie.Need-same-length-2 Inv-loop μ-loop
 same-length-2 c = c .before .loop .inv .2
 
 same-length-3 : tie.Need-same-length-3 Inv-loop μ-loop
-same-length-3 c = c .before .loop .inv .3 ∙ sym (c .before .before .before .before .before .before .before .before .before .before .pre .1 .4)
+same-length-3 c = c .before .loop .inv .3 ∙ sym (c .before .before .before .before .before .before .before .before .before .pre .1 .4)
 
 same-length-4 : tie.Need-same-length-4 Inv-loop μ-loop
-same-length-4 c =
-    let s = c .before .before .before .before .before .before .before .before .before .before in
-    let k = s .args .k in
-    c .before .loop .inv .4 .len ∙ sym (mul-assoc (treesOf k) k (s .args .len)) ∙ ap (λ (n : ℕ). n * s .args .len) (width-fits k (s .pre .0 .0) .columns) ∙ sym (s .pre .0 .4)
+same-length-4 c = c .before .loop .inv .4 ∙ sym (c .before .before .before .before .before .before .before .before .before .pre .0 .5)
 
 returns : tie.Need-returns Inv-loop μ-loop
 unfolding senderTable tableOf
-returns c =
-    let s = c .before .before .before .before .before .before .before .before .before .before in
+returns c delta q =
+    let s = c .before .before .before .before .before .before .before .before .before in
     let w = c .before .loop in
-    laid-all (treesOf (s .args .k)) (s .args .k * s .args .len) _ (w .i) (w .table) (omega (arith, c .loop-test .left)) (w .inv .4)
+    laid-all (s .args .n) (s .args .k * s .args .len) _ (w .i) (w .table) (omega (arith, c .loop-test .left)) (w .inv .5 delta q)
 
 pub all-trees-spec : {M : Type 1} → statement M
 all-trees-spec =
@@ -238,8 +227,6 @@ all-trees-spec =
     (tie.spec
     Inv-loop
     μ-loop
-    all-requires
-    div-n
     mul-size
     mul-wide
     loop-holds
@@ -250,16 +237,16 @@ all-trees-spec =
     mul-to
     mul-start
     mul-end
-    sub-trees-from
-    part-trees-from-start
-    part-trees-from-end
-    sub-trees-from-2
-    part-trees-from-start-2
-    part-trees-from-end-2
-    sub-trees-from-3
-    part-trees-from-start-3
-    part-trees-from-end-3
-    trees-from-requires
+    sub-four-trees
+    part-four-trees-start
+    part-four-trees-end
+    sub-four-trees-2
+    part-four-trees-start-2
+    part-four-trees-end-2
+    sub-four-trees-3
+    part-four-trees-start-3
+    part-four-trees-end-3
+    four-trees-requires
     loop-less
     loop-again
     same-length

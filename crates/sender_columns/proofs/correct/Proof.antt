@@ -1,99 +1,97 @@
--- `sender_columns::correct` meets its contract: it lends its work space. Assumes nothing.
-use mathlib.Core.Path.{sym, ap, _∙_}
-use Prim.Native.Nat.{ℕ, _-_, _*_, _≤_}
+-- `sender_columns::correct` meets its contract: the sides are filled for all base transfers. Assumes nothing.
+use mathlib.Core.Path.{_≡_, ap, _∙_}
+use mathlib.Core.List.{List, _++_}
+use Prim.Native.Nat.{ℕ, _-_, _*_, _%_}
 use native.Mathlib.Omega.{arith}
-use Rattle.sizes.proofs.Widths.{width-fits}
+use lib.ListN.{length, getD, take, drop, replicate, length-replicate}
+use borrow.Rule.Slice.PartMut.{same-len-mid}
 use Rattle.words.proofs.Lists.{cut-length}
-use Rattle.columns.proofs.Tables.{columns-fit}
-use borrow.Author.Needs.{needs}
+use Rattle.tree.specs.Sides.{sidesOf}
+use Rattle.tree.proofs.Sides.{sides-length, sides-lt, lent-sides, whole-trees}
 use Rattle.sender_columns.proofs.correct.Statement.{statement}
 use Rattle.sender_columns.proofs.correct.Tie as tie
 
-mul-size : tie.Need-mul-size
-mul-size c = omega (arith, width-fits _ (c .before .before .before .before .pre .0) .low)
+mul-transfers : tie.Need-mul-transfers
+mul-transfers c = omega (arith, c .before .before .before .before .pre .0 .0 .4)
 
-room-requires : tie.Need-room-requires
-room-requires c κs = omega arith
+sub-all : tie.Need-sub-all
+sub-all c = omega arith
 
--- what it works in is long enough
-fits : (c : tie.After-room) → (c .room .result ≤ 128) × (c .before .before .before .before .before .args .k ≤ 8) × (c .before .before .before .before .before .args .k * c .room .result ≤ 1024)
-fits c =
+part-sides-start : tie.Need-part-sides-start
+part-sides-start c = omega arith
+
+part-sides-end : tie.Need-part-sides-end
+part-sides-end c = omega (arith, c .before .before .before .before .pre .0 .0 .4)
+
+all-requires : tie.Need-all-requires
+all-requires c κs =
     let s = c .before .before .before .before .before in
-    let short : c .room .result ≤ 128 = omega (arith, c .room .ensures, s .pre .2) in
-    let low = width-fits _ (s .pre .0) .low in
-    (short, low, columns-fit (s .args .k) (c .room .result) low short)
+    let m : ℕ = s .args .n * s .args .k in
+    let cut = cut-length m 128 (s .pre .0 .0 .4) in (
+      s .pre .0 .0 .2,
+      ap (λ (i : ℕ). i % s .args .k) cut ∙ whole-trees (s .args .n) (s .args .k) (s .pre .0 .0 .2),
+      omega (arith, cut, s .pre .0 .1),
+    )
 
-mul-wide : tie.Need-mul-wide
-mul-wide c = omega (arith, fits c)
+-- the sides that are lent
+sides-are : (c : tie.After-all)
+    → (let s = c .before .before .before .before .before .before in
+    let m : ℕ = s .args .n * s .args .k in
+    take (m - 0) (c .all .last .1 .1 .0 ++ drop (m - 0) (replicate 128 0)) ≡ sidesOf m (s .args .k) (s .args .delta .now))
+sides-are c =
+    let s = c .before .before .before .before .before .before in
+    let m : ℕ = s .args .n * s .args .k in
+    let cut = cut-length m 128 (s .pre .0 .0 .4) in
+    lent-sides m (s .args .k) (s .args .delta .now) (take (m - 0) (replicate 128 0)) (c .all .last .1 .1 .0) (drop (m - 0) (replicate 128 0)) cut (c .all .kept .1 .1 .0) (c .all .ensures)
 
-sub-all-trees : tie.Need-sub-all-trees
-sub-all-trees c = omega arith
+sub-all-columns : tie.Need-sub-all-columns
+sub-all-columns c = omega arith
 
-part-s-start : tie.Need-part-s-start
-part-s-start c = omega arith
+part-all-columns-start : tie.Need-part-all-columns-start
+part-all-columns-start c = omega arith
 
-part-s-end : tie.Need-part-s-end
-part-s-end c = omega (arith, fits c)
+part-all-columns-end : tie.Need-part-all-columns-end
+part-all-columns-end c =
+    let s = c .before .before .before .before .before .before .before .before in
+    let all = c .before .before .all in
+    let m : ℕ = s .args .n * s .args .k in
+    let long = same-len-mid 0 (m - 0) (replicate 128 0) (all .last .1 .1 .0) (all .kept .1 .1 .0) in
+    omega (arith, s .pre .0 .0 .4, long, length-replicate {A = ℕ} 128 0)
 
-sub-all-trees-2 : tie.Need-sub-all-trees-2
-sub-all-trees-2 c = omega arith
-
-part-u-start : tie.Need-part-u-start
-part-u-start c = omega arith
-
-part-u-end : tie.Need-part-u-end
-part-u-end c = omega arith
-
-sub-all-trees-3 : tie.Need-sub-all-trees-3
-sub-all-trees-3 c = omega arith
-
-part-v-start : tie.Need-part-v-start
-part-v-start c = omega arith
-
-part-v-end : tie.Need-part-v-end
-part-v-end c = omega (arith, fits (c .before .before))
-
-all-trees-requires : tie.Need-all-trees-requires
-all-trees-requires c κs =
-    let s = c .before .before .before .before .before .before .before .before .before in
-    let k = s .args .k in
-    let r = c .before .before .before .before .room in
-    let here = fits (c .before .before .before .before) in
-    let u = cut-length (r .result) 128 (here .0) in (
-      (s .pre .0, s .pre .4, s .pre .5, s .pre .6, s .pre .7),
+all-columns-requires : tie.Need-all-columns-requires
+all-columns-requires c κs =
+    let s = c .before .before .before .before .before .before .before .before .before .before in
+    let had = sides-are (c .before .before .before .before) in
+    let m : ℕ = s .args .n * s .args .k in (
       (
-        cut-length (32 * k) 256 (omega (arith, here .1)),
-        omega (arith, u, r .ensures),
-        omega (arith, u, here .0),
-        omega (arith, u, r .ensures, s .pre .1),
-        cut-length (k * r .result) 1024 (here .2) ∙ ap (λ (n : ℕ). k * n) (sym u),
-        omega (arith, u, r .ensures),
-        omega (arith, s .pre .3),
+        s .pre .0 .0,
+        ap length had ∙ sides-length m (s .args .k) (s .args .delta .now),
+        λ i. rw (ap (λ (l : List ℕ). getD l i 0) had) (sides-lt m (s .args .k) (s .args .delta .now) i),
+        s .pre .0 .2,
+        s .pre .0 .3,
+        s .pre .0 .4,
       ),
+      s .pre .1,
     )
 
 same-length : tie.Need-same-length
 same-length c = omega arith
 
 returns : tie.Need-returns
-returns c = search needs
+returns c = c .before .before .all-columns .ensures (c .before .before .before .before .before .before .before .before .before .before .before .before .before .args .delta .now) (sides-are (c .before .before .before .before .before .before .before))
 
 pub correct-spec : {M : Type 1} → statement M
 correct-spec =
     tie.close
     (tie.spec
-    mul-size
-    room-requires
-    mul-wide
-    sub-all-trees
-    part-s-start
-    part-s-end
-    sub-all-trees-2
-    part-u-start
-    part-u-end
-    sub-all-trees-3
-    part-v-start
-    part-v-end
-    all-trees-requires
+    mul-transfers
+    sub-all
+    part-sides-start
+    part-sides-end
+    all-requires
+    sub-all-columns
+    part-all-columns-start
+    part-all-columns-end
+    all-columns-requires
     same-length
     returns)

@@ -4,7 +4,6 @@ use mathlib.Core.Bool.{true, false}
 use denote.Ref.{now}
 use mathlib.Core.List.{List}
 use Prim.Native.Nat.{ℕ, _*_, _≤_}
-use native.Mathlib.Omega.{arith}
 use lib.ListN.{length}
 use borrow.Author.Needs.{needs}
 use Rattle.answer.specs.Answer.{isDone}
@@ -43,7 +42,7 @@ fits c =
 write-message-requires : tie.Need-write-message-requires
 write-message-requires c κs =
     let h = fits (c .before) in
-    (h .2 ∙ ap (λ (n : ℕ). columns * n) (sym (h .1)), h .3)
+    (refl, h .2 ∙ ap (λ (n : ℕ). columns * n) (sym (h .1)), h .3)
 
 cast-receiver-pads : tie.Need-cast-receiver-pads
 cast-receiver-pads c = search needs
@@ -70,12 +69,12 @@ returns c =
     let t = c .before .before .before .before .before .before .before .before .before .before .before in
     let a = t .before .before .before .before .before .before .before .args in
     let x = t .before .before .receiver-answer in
-    let told : ℕ → List ℕ = λ len. checkMessage len (a .key) (now (a .choices)) (now (a .table)) in
+    let told : ℕ → List ℕ = λ len. checkMessage columns len (a .key) (now (a .choices)) (now (a .table)) in
     record {
       answered = x .ensures;
       recorded = c .without-batch .ensures ∙ sym (new-when (x .result) (withoutBatch (a .r)) (a .r) (done t));
       told = c .before .before .before .before .before .before .before .before .before .write-message .ensures ∙ ap told (fits t .1) ∙ sym (new-when (x .result) (told (columnLength (a .r .blocks))) (now (a .message)) (done t));
-      padded = c .before .before .before .receiver-pads .ensures ∙ sym (new-when (x .result) (receiverPads (a .r .blocks) (a .r .last) (now (a .table))) (now (a .pads)) (done t));
+      padded = c .before .before .before .receiver-pads .ensures ∙ sym (new-when (x .result) (receiverPads columns (a .r .blocks) (a .r .last) (now (a .table))) (now (a .pads)) (done t));
     }
 
 returns-2 : tie.Need-returns-2
@@ -86,8 +85,8 @@ returns-2 c =
     record {
       answered = x .ensures;
       recorded = sym (old-when (x .result) (withoutBatch (a .r)) (a .r) (refused c));
-      told = sym (old-when (x .result) (checkMessage (columnLength (a .r .blocks)) (a .key) (now (a .choices)) table) (now (a .message)) (refused c));
-      padded = sym (old-when (x .result) (receiverPads (a .r .blocks) (a .r .last) table) (now (a .pads)) (refused c));
+      told = sym (old-when (x .result) (checkMessage columns (columnLength (a .r .blocks)) (a .key) (now (a .choices)) table) (now (a .message)) (refused c));
+      padded = sym (old-when (x .result) (receiverPads columns (a .r .blocks) (a .r .last) table) (now (a .pads)) (refused c));
     }
 
 pub receiver-answer-spec : {M : Type 1} → statement M

@@ -1,14 +1,19 @@
 -- `session::receiver_start` meets its contract: the columns are made where the answer is done, and else all is left. Assumes nothing.
-use mathlib.Core.Path.{_≡_, refl, sym, ap, _∙_}
+use mathlib.Core.Path.{_≡_, sym, ap, ap₂, _∙_, subst}
 use mathlib.Core.Bool.{true, false}
 use denote.Ref.{now}
 use Prim.Native.Nat.{ℕ, _-_, _*_, _≤_}
+use native.Mathlib.Nat.{mul-assoc}
 use native.Mathlib.Omega.{arith}
 use lib.ListN.{length}
 use borrow.Author.Needs.{needs}
 use Rattle.answer.specs.Answer.{isDone}
 use Rattle.answer.proofs.Order.{new-when, old-when}
-use Rattle.sizes.specs.Sizes.{widthAllowed, columns, treesOf, columnLength, rootsLength, tableLength, correctionLength}
+use Rattle.sizes.proofs.Widths.{width-fits}
+use Rattle.tree.specs.Tree.{streamByte}
+use Rattle.tree.specs.Sides.{TreesFit}
+use Rattle.tree.proofs.TreesFit.{trees-fit}
+use Rattle.sizes.specs.Sizes.{widthAllowed, treesOf, columnLength, rootsLength, tableLength, correctionLength}
 use Rattle.columns.specs.Columns.{choicesOf, receiverTable, correctionOf}
 use Rattle.rules.specs.Orders.{withBatch}
 use Rattle.rules.proofs.Fits.{start-fits}
@@ -39,21 +44,30 @@ fits c =
     start-fits (a .r) (a .batch) (a .blocks) (length (now (a .roots))) (length (now (a .choices))) (length (now (a .table))) (length (now (a .correction)))
     (ap isDone (sym (c .before .before .receiver-start .ensures)) ∙ done c)
 
+trees-of-requires : tie.Need-trees-of-requires
+trees-of-requires c κs = search needs
+
 cast-start : tie.Need-cast-start
 cast-start c = search needs
 
 start-requires : tie.Need-start-requires
 start-requires c κs =
-    let t = c .before .before .before .before in
+    let t = c .before .before .before .before .before in
     let h = fits t in
-    let k = t .before .before .before .before .before .before .before .args .r .width in (
-      h .0,
-      h .2,
+    let a = t .before .before .before .before .before .before .before .args in
+    let k = a .r .width in
+    let len = columnLength (a .blocks) in
+    let count = c .before .before .before .before .trees-of .ensures in (
+      subst (λ (n : ℕ). TreesFit n k) (sym count) (trees-fit k (h .0)),
+      omega (arith, h .2, count),
       omega (arith, h .3),
       omega (arith, h .3),
       omega (arith, h .3, h .1),
-      h .4 ∙ ap (λ (n : ℕ). columns * n) (sym (h .3)),
-      h .5 ∙ ap (λ (n : ℕ). (treesOf k - 1) * n) (sym (h .3)),
+      h .4
+          ∙ ap (λ (c : ℕ). c * len) (sym (width-fits k (h .0) .columns))
+          ∙ mul-assoc (treesOf k) k len
+          ∙ ap₂ (λ (n m : ℕ). n * (k * m)) (sym count) (sym (h .3)),
+      h .5 ∙ ap₂ (λ (n m : ℕ). (n - 1) * m) (sym count) (sym (h .3)),
     )
 
 with-batch-requires : tie.Need-with-batch-requires
@@ -70,20 +84,23 @@ same-length-3 c = search needs
 
 returns : tie.Need-returns
 returns c =
-    let t = c .before .before .before .before .before .before .before .before .before .before .before .before in
+    let m = c .before .before .before .before .before .before .before .before .before .before .before .before in
+    let t = m .before in
     let a = t .before .before .before .before .before .before .before .args in
     let x = t .before .before .receiver-start in
     let k = a .r .width in
+    let stream = streamByte (a .batch) in
     let roots = now (a .roots) in
     let len = columnLength (a .blocks) in
     let long = fits t .3 in
+    let count = m .trees-of .ensures in
     let made = c .before .before .before .before .before .before .before .start .ensures in
     record {
       answered = x .ensures;
       recorded = c .with-batch .ensures ∙ sym (new-when (x .result) (withBatch (a .r) (a .batch) (a .blocks)) (a .r) (done t));
-      chosen = made .0 ∙ ap (λ (n : ℕ). choicesOf k (a .batch) n roots) long ∙ sym (new-when (x .result) (choicesOf k (a .batch) len roots) (now (a .choices)) (done t));
-      filled = made .1 .0 ∙ ap (λ (n : ℕ). receiverTable k (a .batch) n roots) long ∙ sym (new-when (x .result) (receiverTable k (a .batch) len roots) (now (a .table)) (done t));
-      corrected = made .1 .1 ∙ ap (λ (n : ℕ). correctionOf k (a .batch) n roots) long ∙ sym (new-when (x .result) (correctionOf k (a .batch) len roots) (now (a .correction)) (done t));
+      chosen = made .0 ∙ ap (λ (l : ℕ). choicesOf k stream l roots) long ∙ sym (new-when (x .result) (choicesOf k stream len roots) (now (a .choices)) (done t));
+      filled = made .1 .0 ∙ ap₂ (λ (n l : ℕ). receiverTable n k stream l roots) count long ∙ sym (new-when (x .result) (receiverTable (treesOf k) k stream len roots) (now (a .table)) (done t));
+      corrected = made .1 .1 ∙ ap₂ (λ (n l : ℕ). correctionOf n k stream l roots) count long ∙ sym (new-when (x .result) (correctionOf (treesOf k) k stream len roots) (now (a .correction)) (done t));
     }
 
 returns-2 : tie.Need-returns-2
@@ -91,14 +108,15 @@ returns-2 c =
     let a = c .before .before .before .before .before .before .before .args in
     let x = c .before .before .receiver-start in
     let k = a .r .width in
+    let stream = streamByte (a .batch) in
     let len = columnLength (a .blocks) in
     let roots = now (a .roots) in
     record {
       answered = x .ensures;
       recorded = sym (old-when (x .result) (withBatch (a .r) (a .batch) (a .blocks)) (a .r) (refused c));
-      chosen = sym (old-when (x .result) (choicesOf k (a .batch) len roots) (now (a .choices)) (refused c));
-      filled = sym (old-when (x .result) (receiverTable k (a .batch) len roots) (now (a .table)) (refused c));
-      corrected = sym (old-when (x .result) (correctionOf k (a .batch) len roots) (now (a .correction)) (refused c));
+      chosen = sym (old-when (x .result) (choicesOf k stream len roots) (now (a .choices)) (refused c));
+      filled = sym (old-when (x .result) (receiverTable (treesOf k) k stream len roots) (now (a .table)) (refused c));
+      corrected = sym (old-when (x .result) (correctionOf (treesOf k) k stream len roots) (now (a .correction)) (refused c));
     }
 
 pub receiver-start-spec : {M : Type 1} → statement M
@@ -107,6 +125,7 @@ receiver-start-spec =
     (tie.spec
     receiver-start-requires
     is-done-requires
+    trees-of-requires
     cast-start
     start-requires
     with-batch-requires

@@ -1,16 +1,21 @@
 -- `session::sender_correct` meets its contract: the table is made where the answer is done, and else all is left. Assumes nothing.
-use mathlib.Core.Path.{_≡_, refl, sym, ap, _∙_}
+use mathlib.Core.Path.{_≡_, sym, ap, ap₂, _∙_, subst}
 use mathlib.Core.Bool.{true, false}
 use denote.Ref.{now}
 use mathlib.Core.List.{List}
 use Prim.Native.Nat.{ℕ, _-_, _*_, _≤_}
+use native.Mathlib.Nat.{mul-assoc}
 use native.Mathlib.Omega.{arith}
 use lib.ListN.{length}
 use borrow.Author.Needs.{needs}
 use Rattle.answer.specs.Answer.{isDone}
 use Rattle.answer.proofs.Order.{new-when, old-when}
-use Rattle.sizes.specs.Sizes.{widthAllowed, columns, treesOf, columnLength, deltaLength, siblingsLength, tableLength, correctionLength}
-use Rattle.columns.specs.Columns.{senderTable}
+use Rattle.sizes.proofs.Widths.{width-fits}
+use Rattle.tree.specs.Tree.{streamByte}
+use Rattle.tree.specs.Sides.{TreesFit}
+use Rattle.tree.proofs.TreesFit.{trees-fit}
+use Rattle.sizes.specs.Sizes.{widthAllowed, treesOf, columnLength, deltaLength, siblingsLength, tableLength, correctionLength}
+use Rattle.columns.specs.Columns.{treeCorrection, senderTable}
 use Rattle.rules.specs.Orders.{withBatch}
 use Rattle.rules.proofs.Fits.{correct-fits}
 use Rattle.session.proofs.sender_correct.Statement.{statement}
@@ -42,23 +47,33 @@ fits c =
 column-length-requires : tie.Need-column-length-requires
 column-length-requires c κs = search needs
 
+trees-of-requires : tie.Need-trees-of-requires
+trees-of-requires c κs = search needs
+
 cast-correct : tie.Need-cast-correct
 cast-correct c = search needs
 
 correct-requires : tie.Need-correct-requires
 correct-requires c κs =
-    let t = c .before .before .before in
+    let t = c .before .before .before .before in
     let h = fits t in
-    let k = t .before .before .before .before .before .before .before .args .r .width in
-    let long = c .before .before .column-length .ensures in (
-      h .0,
-      omega (arith, long),
-      omega (arith, long, h .1),
-      omega (arith, long),
-      h .2,
-      h .3,
-      h .4 ∙ ap (λ (n : ℕ). (treesOf k - 1) * n) (sym long),
-      h .5 ∙ ap (λ (n : ℕ). columns * n) (sym long),
+    let a = t .before .before .before .before .before .before .before .args in
+    let k = a .r .width in
+    let len = columnLength (a .blocks) in
+    let long = c .before .before .before .column-length .ensures in
+    let count = c .before .before .trees-of .ensures in
+    let width = width-fits k (h .0) in (
+      (
+        subst (λ (n : ℕ). TreesFit n k) (sym count) (trees-fit k (h .0)),
+        omega (arith, h .3, ap (λ (n : ℕ). n * k) count, width .columns),
+        h .2 ∙ sym (width .single) ∙ ap (λ (n : ℕ). n * (32 * k)) (sym count),
+        h .4 ∙ ap₂ (λ (n l : ℕ). (n - 1) * l) (sym count) (sym long),
+        h .5
+            ∙ ap (λ (c : ℕ). c * len) (sym (width .columns))
+            ∙ mul-assoc (treesOf k) k len
+            ∙ ap₂ (λ (n l : ℕ). n * (k * l)) (sym count) (sym long),
+      ),
+      (omega (arith, long), omega (arith, long, h .1), omega (arith, long)),
     )
 
 with-batch-requires : tie.Need-with-batch-requires
@@ -69,22 +84,24 @@ same-length c = search needs
 
 returns : tie.Need-returns
 returns c =
-    let t = c .before .before .before .before .before .before .before in
+    let m = c .before .before .before .before .before .before in
+    let t = m .before .before in
     let a = t .before .before .before .before .before .before .before .args in
     let x = t .before .before .sender-correct in
-    let made : ℕ → List ℕ = λ len. senderTable (a .r .width) (a .batch) len (now (a .siblings)) (now (a .delta)) (now (a .correction)) in
+    let made : ℕ → ℕ → List ℕ = λ n len. senderTable n (a .r .width) (streamByte (a .batch)) len (now (a .siblings)) (now (a .delta)) (treeCorrection len (now (a .correction))) in
     record {
       answered = x .ensures;
       recorded = c .with-batch .ensures ∙ sym (new-when (x .result) (withBatch (a .r) (a .batch) (a .blocks)) (a .r) (done t));
-      filled = c .before .before .before .correct .ensures ∙ ap made (c .before .before .before .before .before .before .column-length .ensures)
-          ∙ sym (new-when (x .result) (made (columnLength (a .blocks))) (now (a .table)) (done t));
+      filled = c .before .before .before .correct .ensures ∙ ap₂ made (m .trees-of .ensures) (m .before .column-length .ensures)
+          ∙ sym (new-when (x .result) (made (treesOf (a .r .width)) (columnLength (a .blocks))) (now (a .table)) (done t));
     }
 
 returns-2 : tie.Need-returns-2
 returns-2 c =
     let a = c .before .before .before .before .before .before .before .args in
     let x = c .before .before .sender-correct in
-    let made = senderTable (a .r .width) (a .batch) (columnLength (a .blocks)) (now (a .siblings)) (now (a .delta)) (now (a .correction)) in
+    let len = columnLength (a .blocks) in
+    let made = senderTable (treesOf (a .r .width)) (a .r .width) (streamByte (a .batch)) len (now (a .siblings)) (now (a .delta)) (treeCorrection len (now (a .correction))) in
     record {
       answered = x .ensures;
       recorded = sym (old-when (x .result) (withBatch (a .r) (a .batch) (a .blocks)) (a .r) (refused c));
@@ -98,6 +115,7 @@ sender-correct-spec =
     sender-correct-requires
     is-done-requires
     column-length-requires
+    trees-of-requires
     cast-correct
     correct-requires
     with-batch-requires

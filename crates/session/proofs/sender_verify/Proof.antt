@@ -56,7 +56,7 @@ column-length-requires c κs = search needs
 accepts-requires : tie.Need-accepts-requires
 accepts-requires c κs =
     let h = fits (c .before) in
-    (h .1 ∙ ap (λ (n : ℕ). columns * n) (sym (c .column-length .ensures)), h .2, h .3)
+    (refl, omega arith, h .1 ∙ ap (λ (n : ℕ). columns * n) (sym (c .column-length .ensures)), omega (arith, h .2), h .3)
 
 cast-sender-pads : tie.Need-cast-sender-pads
 cast-sender-pads c = search needs
@@ -80,7 +80,7 @@ same-length c = search needs
 
 -- the check
 abbrev decides : tie.Start → ℕ → Bool
-decides s len = accepts len (s .args .key) (now (s .args .table)) (now (s .args .delta)) (now (s .args .message))
+decides s len = accepts columns len (s .args .key) (now (s .args .table)) (now (s .args .delta)) (now (s .args .message))
 
 returns : tie.Need-returns
 returns c =
@@ -94,7 +94,7 @@ returns c =
           ∙ sym (last-decides (asked s) (decides s (columnLength (a .r .blocks))) Check (holds t) ∙ ap (λ (b : Bool). cond b Done Check) accepted);
       recorded = c .without-batch .ensures ∙ sym (new-when (x .result) (withoutBatch (a .r)) (whenFailed (x .result) (closed (a .r)) (a .r)) (done t));
       padded = c .before .before .before .sender-pads .ensures
-          ∙ sym (new-when (x .result) (senderPads (a .r .blocks) (a .r .last) (now (a .table)) (now (a .delta))) (now (a .pads)) (done t));
+          ∙ sym (new-when (x .result) (senderPads columns (a .r .blocks) (a .r .last) (now (a .table)) (now (a .delta))) (now (a .pads)) (done t));
     }
 
 returns-2 : tie.Need-returns-2
@@ -118,7 +118,7 @@ returns-3 c =
     record {
       answered = x .ensures ∙ sym (first-refused (asked s) ((decides s (columnLength (a .r .blocks)), Check) ∷ []) refusal);
       recorded = sym (old-when (x .result) (withoutBatch (a .r)) (whenFailed (x .result) (closed (a .r)) (a .r)) (refused c) ∙ kept);
-      padded = sym (old-when (x .result) (senderPads (a .r .blocks) (a .r .last) (now (a .table)) (now (a .delta))) (now (a .pads)) (refused c));
+      padded = sym (old-when (x .result) (senderPads columns (a .r .blocks) (a .r .last) (now (a .table)) (now (a .delta))) (now (a .pads)) (refused c));
     }
 
 pub sender-verify-spec : {M : Type 1} → statement M

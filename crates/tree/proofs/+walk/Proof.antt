@@ -7,6 +7,7 @@ use lib.ListN.{length}
 use borrow.Author.Needs.{needs}
 use Rattle.chacha20.specs.Lanes.{blocksOf}
 use Rattle.chacha20.specs.Nonce.{nonceOf}
+use Rattle.tree.specs.Streams.{wordOf}
 use Rattle.tree.proofs.Lanes.{child-in}
 use Rattle.tree.proofs.Telescope.{leaf-columns, column-fits, walked}
 use borrow.Fn.Kinds.{In}
@@ -128,7 +129,7 @@ walk-returns t c =
     let split = c .before .before .before .before in
     let s = split .before .before .before .args in
     let leaf : s .levels ≡ 0 = split .if1 .taken in
-    rw leaf (c .before .before .add-stream .ensures, leaf-columns (s .batch) (length (s .u .now)) (s .nodes .now) (s .v .now))
+    rw leaf (c .before .before .add-stream .ensures, leaf-columns (wordOf (s .stream)) (length (s .u .now)) (s .nodes .now) (s .v .now))
 
 walk-same-length-2 : (t : ℕ) → walk-lts.Need-same-length-2 (claims t) (walk-at t) walk.Post
 walk-same-length-2 t c = search needs
@@ -148,7 +149,7 @@ walk-returns-2 t c =
     let block : _ ≡ blocksOf nodes 0 (nonceOf 0 0) = made .block .ensures ∙ ap (blocksOf nodes 0) (made .before .before .nonce .ensures) in
     let first = left .walk .ensures in
     let second = right .walk2 .ensures in
-    walked (s .args .batch) (s .args .levels) nodes _ _ (s .args .u .now) _ _ (s .args .v .now) _ _ _ _ (split .if1 .left)
+    walked (wordOf (s .args .stream)) (s .args .levels) nodes _ _ (s .args .u .now) _ _ (s .args .v .now) _ _ _ _ (split .if1 .left)
     (child-in nodes _ _ 0 (omega arith) block (left .before .before .before .before .nodes-at .ensures))
     (child-in nodes _ _ 1 (omega arith) block (right .before .before .before .before .nodes-at2 .ensures))
     (s .pre .1 .1 .2) (s .pre .1 .0) (first .0) (second .0)

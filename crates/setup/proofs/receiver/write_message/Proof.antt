@@ -2,51 +2,50 @@
 use mathlib.Core.Path.{_≡_, sym, _∙_}
 use mathlib.Core.List.{List}
 use Prim.Native.Nat.{ℕ, _+_, _-_, _*_, _%_, _≤_}
+use native.Mathlib.Nat.{mul-left-comm}
 use native.Mathlib.Omega.{arith}
 use borrow.Rule.Slice.PartMut.{mid-len}
 use Rattle.words.proofs.Layouts.{Laid, laid-none, laid-more, laid-all}
-use Rattle.sizes.specs.Sizes.{treesOf}
 use Rattle.tree.specs.Layout.{rootOf, treePart}
 use Rattle.setup.specs.Setup.{treeMessage, messageOf}
 use Rattle.setup.proofs.Honest.{message-length}
-use Rattle.sizes.proofs.Widths.{width-fits, four-fit}
+use Rattle.tree.proofs.TreesFit.{few-trees, four-fit}
 use Rattle.setup.proofs.Message.{four-from}
 use Rattle.setup.proofs.receiver.write_message.Statement.{statement}
 use Rattle.setup.proofs.receiver.write_message.Tie as tie
 
 abbrev Inv-loop : tie.InvT-loop
-Inv-loop k roots pads message₀ n size i₀ message i =
-    (i % 4 ≡ 0) × Laid (treesOf k) (64 * k) (λ j. treeMessage k (rootOf roots j) (treePart k 64 j pads)) i message
+Inv-loop n k roots pads message₀ size i₀ message i =
+    (i % 4 ≡ 0) × Laid n (64 * k) (λ j. treeMessage k (rootOf roots j) (treePart k 64 j pads)) i message
 
 abbrev μ-loop : tie.MeasureT-loop
-μ-loop k roots pads message₀ n size i₀ message i = treesOf k - i
-
-div-n : tie.Need-div-n Inv-loop μ-loop
-div-n c = omega (arith, width-fits _ (c .before .before .before .pre .0) .some)
+μ-loop n k roots pads message₀ size i₀ message i = n - i
 
 mul-size : tie.Need-mul-size Inv-loop μ-loop
-mul-size c = omega (arith, width-fits _ (c .before .before .before .pre .0) .low)
+mul-size c = omega (arith, c .before .before .before .pre .0)
 
 loop-holds : tie.Need-loop-holds Inv-loop μ-loop
 loop-holds c =
     let s = c .before .before .before in
-    (omega arith, laid-none _ _ _ (s .args .message .now) (s .pre .3 ∙ sym (width-fits _ (s .pre .0) .pairs)))
+    (omega arith, laid-none _ _ _ (s .args .message .now) (s .pre .3))
 
 -- four trees from tree i on are within the roots, the pads and the message
-abbrev Room : ℕ → ℕ → Type 0
-Room k i =
-    (i + 4 ≤ treesOf k)
-    × (treesOf k ≤ 128)
+abbrev Room : ℕ → ℕ → ℕ → Type 0
+Room n k i =
+    (i + 4 ≤ n)
+    × (n ≤ 128)
     × ((i + 4) * (64 * k) ≡ i * (64 * k) + 4 * (64 * k))
-    × ((i + 4) * (64 * k) ≤ treesOf k * (64 * k))
-    × (treesOf k * (64 * k) ≡ 8192)
+    × ((i + 4) * (64 * k) ≤ n * (64 * k))
+    × (n * (64 * k) ≤ 8192)
 
-room : (c : tie.In-loop Inv-loop μ-loop) → Room (c .before .before .before .before .before .args .k) (c .before .loop .i)
+room : (c : tie.In-loop Inv-loop μ-loop) → (let s = c .before .before .before .before .before in Room (s .args .n) (s .args .k) (c .before .loop .i))
 room c =
-    let k = c .before .before .before .before .before .args .k in
-    let fits = width-fits k (c .before .before .before .before .before .pre .0) in
-    let four = four-fit k (c .before .loop .i) fits (c .before .loop .inv .0) (c .loop-test .taken) (64 * k) in
-    (four .0, fits .trees, four .1, four .2, fits .pairs)
+    let s = c .before .before .before .before .before in
+    let n = s .args .n in
+    let k = s .args .k in
+    let trees = s .pre .0 in
+    let four = four-fit n (c .before .loop .i) (trees .1) (c .before .loop .inv .0) (c .loop-test .taken) (64 * k) in
+    (four .0, few-trees n k trees, four .1, four .2, omega (arith, mul-left-comm n 64 k, trees .4))
 
 add-next : tie.Need-add-next Inv-loop μ-loop
 add-next c = omega (arith, room c)
@@ -98,7 +97,7 @@ four-messages-requires c κs =
     let a : ℕ = w .i * (64 * s .args .k) in
     let e : ℕ = (w .i + 4) * (64 * s .args .k) in
     let size : e - a ≡ 4 * (64 * s .args .k) = omega (arith, here) in (
-      width-fits _ (s .pre .0) .low,
+      s .pre .0 .3,
       mid-len (w .i * 32) ((w .i + 4) * 32) (s .args .roots .now) (omega (arith, here, s .pre)) ∙ omega arith,
       mid-len a e (s .args .pads .now) (omega (arith, here, s .pre)) ∙ size,
       mid-len a e (w .message) (omega (arith, here, w .inv .1 .len)) ∙ size,
@@ -115,12 +114,12 @@ loop-again c =
     let k = s .args .k in
     let f : ℕ → List ℕ = λ j. treeMessage k (rootOf (s .args .roots .now) j) (treePart k 64 j (s .args .pads .now)) in
     let made = c .before .before .four-messages .ensures ∙ four-from k (w .i) (s .args .roots .now) (s .args .pads .now) in
-    (omega (arith, w .inv .0), laid-more (treesOf k) (64 * k) f (w .i) 4 (w .message) _ made (λ j h. message-length k _ _) (here .0) (w .inv .1))
+    (omega (arith, w .inv .0), laid-more (s .args .n) (64 * k) f (w .i) 4 (w .message) _ made (λ j h. message-length k _ _) (here .0) (w .inv .1))
 
 same-length : tie.Need-same-length Inv-loop μ-loop
 same-length c =
     let s = c .before .before .before .before .before in
-    c .before .loop .inv .1 .len ∙ width-fits _ (s .pre .0) .pairs ∙ sym (s .pre .3)
+    c .before .loop .inv .1 .len ∙ sym (s .pre .3)
 
 returns : tie.Need-returns Inv-loop μ-loop
 unfolding messageOf
@@ -132,7 +131,6 @@ write-message-spec =
     (tie.spec
     Inv-loop
     μ-loop
-    div-n
     mul-size
     loop-holds
     add-next

@@ -2,58 +2,57 @@
 use mathlib.Core.Path.{_≡_, refl, sym, _∙_}
 use mathlib.Core.List.{List}
 use Prim.Native.Nat.{ℕ, _+_, _-_, _*_, _%_, _≤_}
+use native.Mathlib.Nat.{mul-left-comm}
 use native.Mathlib.Omega.{arith}
 use lib.ListN.{getD, drop}
 use borrow.Rule.Slice.PartMut.{mid-len}
 use Rattle.words.proofs.Concat.{concat-length, part-lt, rest-kept}
 use Rattle.words.proofs.Layouts.{Laid, laid-none, laid-more, laid-all}
-use Rattle.sizes.specs.Sizes.{treesOf}
 use Rattle.tree.specs.Layout.{treePart}
 use Rattle.setup.specs.Setup.{nodesFound}
-use Rattle.sizes.proofs.Widths.{width-fits, four-fit}
+use Rattle.tree.proofs.TreesFit.{few-trees, four-fit}
 use Rattle.setup.proofs.Levels.{found-length, four-found}
 use Rattle.setup.proofs.sender.all_trees.Statement.{statement}
 use Rattle.setup.proofs.sender.all_trees.Tie as tie
 
 abbrev Inv-loop : tie.InvT-loop
-Inv-loop k sides siblings₀ n size i₀ siblings i =
+Inv-loop n k sides siblings₀ size i₀ siblings i =
     (i % 4 ≡ 0)
-    × Laid (treesOf k) (32 * k) (λ j. nodesFound (λ l. getD sides (j * k + l) 0) (treePart k 32 j siblings₀) k) i siblings
+    × Laid n (32 * k) (λ j. nodesFound (λ l. getD sides (j * k + l) 0) (treePart k 32 j siblings₀) k) i siblings
     × (drop (i * (32 * k)) siblings ≡ drop (i * (32 * k)) siblings₀)
 
 abbrev μ-loop : tie.MeasureT-loop
-μ-loop k sides siblings₀ n size i₀ siblings i = treesOf k - i
-
-div-n : tie.Need-div-n Inv-loop μ-loop
-div-n c = omega (arith, width-fits _ (c .before .before .pre .0) .some)
+μ-loop n k sides siblings₀ size i₀ siblings i = n - i
 
 mul-size : tie.Need-mul-size Inv-loop μ-loop
-mul-size c = omega (arith, width-fits _ (c .before .before .pre .0) .low)
+mul-size c = omega (arith, c .before .before .pre .0)
 
 loop-holds : tie.Need-loop-holds Inv-loop μ-loop
 loop-holds c =
     let s = c .before .before in
-    (omega arith, laid-none _ _ _ (s .args .siblings .now) (s .pre .3 ∙ sym (width-fits _ (s .pre .0) .single)), refl)
+    (omega arith, laid-none _ _ _ (s .args .siblings .now) (s .pre .3), refl)
 
 -- four trees from tree i on are within the sides and the siblings
-abbrev Room : ℕ → ℕ → Type 0
-Room k i =
-    (i + 4 ≤ treesOf k)
-    × (treesOf k ≤ 128)
+abbrev Room : ℕ → ℕ → ℕ → Type 0
+Room n k i =
+    (i + 4 ≤ n)
+    × (n ≤ 128)
     × ((i + 4) * (32 * k) ≡ i * (32 * k) + 4 * (32 * k))
-    × ((i + 4) * (32 * k) ≤ treesOf k * (32 * k))
-    × (treesOf k * (32 * k) ≡ 4096)
+    × ((i + 4) * (32 * k) ≤ n * (32 * k))
+    × (n * (32 * k) ≤ 4096)
     × ((i + 4) * k ≡ i * k + 4 * k)
-    × ((i + 4) * k ≤ 128)
+    × ((i + 4) * k ≤ n * k)
+    × (n * k ≤ 128)
 
-room : (c : tie.In-loop Inv-loop μ-loop) → Room (c .before .before .before .before .args .k) (c .before .loop .i)
+room : (c : tie.In-loop Inv-loop μ-loop) → (let s = c .before .before .before .before in Room (s .args .n) (s .args .k) (c .before .loop .i))
 room c =
-    let k = c .before .before .before .before .args .k in
-    let fits = width-fits k (c .before .before .before .before .pre .0) in
-    let four = four-fit k (c .before .loop .i) fits (c .before .loop .inv .0) (c .loop-test .taken) in
-    let sides = four k in
-    let nodes = four (32 * k) in
-    (sides .0, fits .trees, nodes .1, nodes .2, fits .single, sides .1, omega (arith, sides .2, fits .columns))
+    let s = c .before .before .before .before in
+    let n = s .args .n in
+    let k = s .args .k in
+    let trees = s .pre .0 in
+    let sides = four-fit n (c .before .loop .i) (trees .1) (c .before .loop .inv .0) (c .loop-test .taken) k in
+    let nodes = four-fit n (c .before .loop .i) (trees .1) (c .before .loop .inv .0) (c .loop-test .taken) (32 * k) in
+    (sides .0, few-trees n k trees, nodes .1, nodes .2, omega (arith, mul-left-comm n 32 k, trees .4), sides .1, sides .2, trees .4)
 
 add-next : tie.Need-add-next Inv-loop μ-loop
 add-next c = omega (arith, room c)
@@ -92,12 +91,11 @@ four-trees-requires : tie.Need-four-trees-requires Inv-loop μ-loop
 four-trees-requires c κs = let s = c .before .before .before .before .before .before in
     let w = c .before .before .before .loop in
     let here = room (c .before .before) in
-    let fits = width-fits _ (s .pre .0) in
     let k = s .args .k in
     let size : (w .i + 4) * (32 * k) - w .i * (32 * k) ≡ 4 * (32 * k) = omega (arith, here) in
     let size₂ : (w .i + 4) * k - w .i * k ≡ 4 * k = omega (arith, here) in (
-      fits .some,
-      fits .low,
+      s .pre .0 .2,
+      s .pre .0 .3,
       mid-len (w .i * k) ((w .i + 4) * k) (s .args .sides .now) (omega (arith, here, s .pre .1)) ∙ size₂,
       part-lt (w .i * k) ((w .i + 4) * k - w .i * k) (s .args .sides .now) 2 (omega arith) (s .pre .2),
       mid-len (w .i * (32 * k)) ((w .i + 4) * (32 * k)) (w .siblings) (omega (arith, here, w .inv .1 .len)) ∙ size,
@@ -123,14 +121,14 @@ loop-again c =
     let size = concat-length (λ j. f (w .i + j)) m 4 (λ j h. found-length _ _ k ∙ turn) ∙ whole in
     let made = c .before .before .four-trees .ensures ∙ four-found k (w .i) sides totals (w .siblings) (w .inv .2) in (
       omega (arith, w .inv .0),
-      laid-more (treesOf k) m f (w .i) 4 (w .siblings) _ made (λ j h. found-length _ _ k ∙ turn) (here .0) (w .inv .1),
+      laid-more (s .args .n) m f (w .i) 4 (w .siblings) _ made (λ j h. found-length _ _ k ∙ turn) (here .0) (w .inv .1),
       rest-kept a e (w .siblings) _ totals _ made size (omega (arith, here)) (omega (arith, here, w .inv .1 .len)) (w .inv .2),
     )
 
 same-length : tie.Need-same-length Inv-loop μ-loop
 same-length c =
     let s = c .before .before .before .before in
-    c .before .loop .inv .1 .len ∙ width-fits _ (s .pre .0) .single ∙ sym (s .pre .3)
+    c .before .loop .inv .1 .len ∙ sym (s .pre .3)
 
 returns : tie.Need-returns Inv-loop μ-loop
 returns c = laid-all _ _ _ _ (c .before .loop .siblings) (omega arith) (c .before .loop .inv .1)
@@ -141,7 +139,6 @@ all-trees-spec =
     (tie.spec
     Inv-loop
     μ-loop
-    div-n
     mul-size
     loop-holds
     add-next

@@ -1,86 +1,94 @@
--- `setup::sender::find_siblings` meets its contract: all totals are unmasked, and then freed tree by tree. Assumes nothing.
-use mathlib.Core.Path.{_≡_, sym, ap, _∙_}
-use mathlib.Core.List.{List}
-use Prim.Native.Nat.{ℕ, _-_}
+-- `setup::sender::find_siblings` meets its contract: the sides are filled for all base transfers. Assumes nothing.
+use mathlib.Core.Path.{_≡_, ap, _∙_}
+use mathlib.Core.List.{List, _++_}
+use Prim.Native.Nat.{ℕ, _-_, _*_, _%_}
 use native.Mathlib.Omega.{arith}
-use lib.ListN.{length, getD}
-use borrow.Author.Needs.{needs}
-use Rattle.sizes.specs.Sizes.{columns, treesOf}
-use Rattle.setup.specs.Setup.{unmasked}
-use Rattle.sizes.proofs.Widths.{width-fits}
-use Rattle.tree.specs.Sides.{Sides}
-use Rattle.setup.specs.Found.{foundIn}
-use Rattle.tree.proofs.Sides.{sides-length, sides-lt}
-use Rattle.setup.proofs.Find.{siblings-found, siblings-first}
+use lib.ListN.{length, getD, take, drop, replicate, length-replicate}
+use borrow.Rule.Slice.PartMut.{same-len-mid}
+use Rattle.words.proofs.Lists.{cut-length}
+use Rattle.tree.specs.Sides.{sidesOf}
+use Rattle.tree.proofs.Sides.{sides-length, sides-lt, lent-sides, whole-trees}
 use Rattle.setup.proofs.sender.find_siblings.Statement.{statement}
 use Rattle.setup.proofs.sender.find_siblings.Tie as tie
 
+mul-transfers : tie.Need-mul-transfers
+mul-transfers c = omega (arith, c .before .before .before .before .pre .0 .4)
+
+sub-all : tie.Need-sub-all
+sub-all c = omega arith
+
+part-sides-start : tie.Need-part-sides-start
+part-sides-start c = omega arith
+
+part-sides-end : tie.Need-part-sides-end
+part-sides-end c = omega (arith, c .before .before .before .before .pre .0 .4)
+
 all-requires : tie.Need-all-requires
-all-requires c κs = (c .before .before .before .before .pre .0, c .before .before .before .before .pre .1)
+all-requires c κs =
+    let s = c .before .before .before .before .before in
+    let m : ℕ = s .args .n * s .args .k in
+    let cut = cut-length m 128 (s .pre .0 .4) in (
+      s .pre .0 .2,
+      ap (λ (i : ℕ). i % s .args .k) cut ∙ whole-trees (s .args .n) (s .args .k) (s .pre .0 .2),
+      omega (arith, cut, s .pre .1),
+    )
 
--- the sides: as many as base transfers, and each 0 or 1
-long : (c : tie.After-all) → length (c .all .result) ≡ 128
-long c = ap length (c .all .ensures) ∙ sides-length (c .before .before .before .before .before .args .k) (c .before .before .before .before .before .args .delta .now)
+-- the sides that are lent
+sides-are : (c : tie.After-all)
+    → (let s = c .before .before .before .before .before .before in
+    let m : ℕ = s .args .n * s .args .k in
+    take (m - 0) (c .all .last .1 .1 .0 ++ drop (m - 0) (replicate 128 0)) ≡ sidesOf m (s .args .k) (s .args .delta .now))
+sides-are c =
+    let s = c .before .before .before .before .before .before in
+    let m : ℕ = s .args .n * s .args .k in
+    let cut = cut-length m 128 (s .pre .0 .4) in
+    lent-sides m (s .args .k) (s .args .delta .now) (take (m - 0) (replicate 128 0)) (c .all .last .1 .1 .0) (drop (m - 0) (replicate 128 0)) cut (c .all .kept .1 .1 .0) (c .all .ensures)
 
-low : (c : tie.After-all) → Sides (c .all .result)
-low c i = rw (c .all .ensures) (sides-lt (c .before .before .before .before .before .args .k) (c .before .before .before .before .before .args .delta .now) i)
+sub-find-by-sides : tie.Need-sub-find-by-sides
+sub-find-by-sides c = omega arith
 
-slice-aggregate-unmask-all : tie.Need-slice-aggregate-unmask-all
-slice-aggregate-unmask-all c = sym (long (c .before))
+part-find-by-sides-start : tie.Need-part-find-by-sides-start
+part-find-by-sides-start c = omega arith
 
-unmask-all-requires : tie.Need-unmask-all-requires
-unmask-all-requires c κs =
-    let s = c .before .before .before .before .before .before .before in
-    ((long (c .before .before), low (c .before .before)), (s .pre .2, s .pre .3, s .pre .4))
+part-find-by-sides-end : tie.Need-part-find-by-sides-end
+part-find-by-sides-end c =
+    let s = c .before .before .before .before .before .before .before .before in
+    let all = c .before .before .all in
+    let m : ℕ = s .args .n * s .args .k in
+    let long = same-len-mid 0 (m - 0) (replicate 128 0) (all .last .1 .1 .0) (all .kept .1 .1 .0) in
+    omega (arith, s .pre .0 .4, long, length-replicate {A = ℕ} 128 0)
 
-slice-aggregate-all-trees : tie.Need-slice-aggregate-all-trees
-slice-aggregate-all-trees c = sym (long (c .before .before .before .before .before .before .before))
-
-all-trees-requires : tie.Need-all-trees-requires
-all-trees-requires c κs =
-    let s = c .before .before .before .before .before .before .before .before .before .before .before .before .before in
-    let side = c .before .before .before .before .before .before .before .before in
-    (s .pre .0, long side, low side, c .before .before .before .before .before .unmask-all .kept .1 .1 .1 .0 ∙ s .pre .4)
+find-by-sides-requires : tie.Need-find-by-sides-requires
+find-by-sides-requires c κs =
+    let s = c .before .before .before .before .before .before .before .before .before .before in
+    let had = sides-are (c .before .before .before .before) in
+    let m : ℕ = s .args .n * s .args .k in (
+      s .pre .0,
+      ap length had ∙ sides-length m (s .args .k) (s .args .delta .now),
+      λ i. rw (ap (λ (l : List ℕ). getD l i 0) had) (sides-lt m (s .args .k) (s .args .delta .now) i),
+      s .pre .2,
+      s .pre .3,
+      s .pre .4,
+    )
 
 same-length : tie.Need-same-length
-same-length c = search needs
+same-length c = omega arith
 
 returns : tie.Need-returns
-returns c =
-    let s = c .before .before .before .before .before .before .before .before .before .before .before .before .before .before .before .before in
-    let side = c .before .before .before .before .before .before .before .before .before .before .before .all in
-    let k = s .args .k in
-    let message = s .args .message .now in
-    let pads = s .args .pads .now in
-    c .before .before .all-trees .ensures
-    ∙ ap (foundIn k (treesOf k) (side .result)) (c .before .before .before .before .before .before .before .before .unmask-all .ensures)
-    ∙ ap (λ (z : List ℕ). foundIn k (treesOf k) z (unmasked columns (λ c. getD z c 0) message pads)) (side .ensures)
-    ∙ siblings-found k (s .pre .0) (s .args .delta .now) message pads
-
-same-length-2 : tie.Need-same-length-2
-same-length-2 c = search needs
-
-returns-2 : tie.Need-returns-2
-returns-2 c =
-    let s = c .before .before .before .before .before .before .before .before .before .before .before in
-    let k = s .args .k in
-    let message = s .args .message .now in
-    let pads = s .args .pads .now in
-    let one : k ≡ 1 = omega (arith, width-fits k (s .pre .0) .some) in
-    c .before .before .before .unmask-all .ensures
-    ∙ ap (λ (z : List ℕ). unmasked columns (λ c. getD z c 0) message pads) (c .before .before .before .before .before .before .all .ensures)
-    ∙ siblings-first k (s .pre .0) (s .args .delta .now) message pads one
+returns c = c .before .before .find-by-sides .ensures (c .before .before .before .before .before .before .before .before .before .before .before .before .before .args .delta .now) (sides-are (c .before .before .before .before .before .before .before))
 
 pub find-siblings-spec : {M : Type 1} → statement M
 find-siblings-spec =
     tie.close
     (tie.spec
+    mul-transfers
+    sub-all
+    part-sides-start
+    part-sides-end
     all-requires
-    slice-aggregate-unmask-all
-    unmask-all-requires
-    slice-aggregate-all-trees
-    all-trees-requires
+    sub-find-by-sides
+    part-find-by-sides-start
+    part-find-by-sides-end
+    find-by-sides-requires
     same-length
-    returns
-    same-length-2
-    returns-2)
+    returns)

@@ -15,10 +15,10 @@ use Rattle.setup.proofs.sender.unmask_all.Tie as tie
 
 abbrev Inv-loop : tie.InvT-loop
 Inv-loop sides pads message siblings₀ c₀ siblings c =
-    (c ≤ 128) × (length siblings ≡ 4096) × (take (32 * c) siblings ≡ concat c (levelOf (λ i. getD sides i 0) message pads))
+    (c ≤ length sides) × (length siblings ≡ 32 * length sides) × (take (32 * c) siblings ≡ concat c (levelOf (λ i. getD sides i 0) message pads))
 
 abbrev μ-loop : tie.MeasureT-loop
-μ-loop sides pads message siblings₀ c₀ siblings c = 128 - c
+μ-loop sides pads message siblings₀ c₀ siblings c = length sides - c
 
 loop-holds : tie.Need-loop-holds Inv-loop μ-loop
 unfolding concat
@@ -108,7 +108,7 @@ returns : tie.Need-returns Inv-loop μ-loop
 unfolding unmasked
 returns c = let w = c .before .loop in
     let s = c .before .before .before .before .before .before in
-    let all : w .c ≡ 128 = omega arith in
+    let all : w .c ≡ length (s .args .sides .now) = omega arith in
     sym (take-all (32 * w .c) (w .siblings) (omega (arith, w .inv .1))) ∙ w .inv .2
     ∙ ap (λ (i : ℕ). concat i (levelOf (λ i. getD (s .args .sides .now) i 0) (s .args .message .now) (s .args .pads .now))) all
 

@@ -1,8 +1,8 @@
 -- `tree::side::all` meets its contract: the sides below c are those of their base transfers; `level` is c's. Assumes nothing.
-use mathlib.Core.Path.{_≡_, sym, ap, _∙_}
+use mathlib.Core.Path.{_≡_, refl, sym, ap, _∙_}
 use Prim.Native.Nat.{ℕ, _+_, _-_, _%_, _≤_}
 use native.Mathlib.Omega.{arith}
-use lib.ListN.{set, length-replicate}
+use lib.ListN.{length, set, length-set}
 use Rattle.words.specs.Bits.{bitAt}
 use Rattle.words.proofs.Progress.{Begun, begun-none, begun-set, begun-all}
 use Rattle.tree.specs.Sides.{sidesOf}
@@ -11,24 +11,28 @@ use Rattle.tree.proofs.side.all.Statement.{statement}
 use Rattle.tree.proofs.side.all.Tie as tie
 
 abbrev Inv-loop : tie.InvT-loop
-Inv-loop k delta r₀ c₀ level₀ r c level = (c ≤ 128) × (level ≡ c % k) × Begun c (sidesOf k delta) r
+Inv-loop k delta out₀ c₀ level₀ out c level = (c ≤ length out₀) × (level ≡ c % k) × (length out ≡ length out₀) × Begun c (sidesOf (length out₀) k delta) out
 
 abbrev μ-loop : tie.MeasureT-loop
-μ-loop k delta r₀ c₀ level₀ r c level = 128 - c
+μ-loop k delta out₀ c₀ level₀ out c level = length out₀ - c
 
 loop-holds : tie.Need-loop-holds Inv-loop μ-loop
 loop-holds c =
-    let s = c .before in (
+    let s = c .before .before in
+    let m : ℕ = length (s .args .out .now) in (
       omega arith,
-      level-first _ (s .pre .0),
-      begun-none (sidesOf (s .args .k) (s .args .delta .now)) _ (length-replicate {A = ℕ} 128 0 ∙ sym (sides-length (s .args .k) (s .args .delta .now))),
+      level-first (s .args .k),
+      refl,
+      begun-none (sidesOf m (s .args .k) (s .args .delta .now)) _ (sym (sides-length m (s .args .k) (s .args .delta .now))),
     )
 
 -- the bit's place is inside delta
-fits : (c : tie.In-loop Inv-loop μ-loop) → LevelFits (c .before .before .before .args .k) (c .before .loop .c) (c .before .loop .level)
+fits : (c : tie.In-loop Inv-loop μ-loop)
+    → (let s = c .before .before .before .before in LevelFits (length (s .args .out .now)) (s .args .k) (c .before .loop .c) (c .before .loop .level))
 fits c =
+    let s = c .before .before .before .before in
     let w = c .before .loop in
-    rw (w .inv .1) (level-fits _ (c .before .before .before .pre .0) (w .c) (c .loop-test .taken))
+    rw (w .inv .1) (level-fits (length (s .args .out .now)) (s .args .k) (s .pre .0) (s .pre .1) (w .c) (omega (arith, c .loop-test .taken, w .inv .2)))
 
 sub-tree : tie.Need-sub-tree Inv-loop μ-loop
 sub-tree c = omega (arith, fits c)
@@ -43,13 +47,13 @@ add-bit : tie.Need-add-bit Inv-loop μ-loop
 add-bit c = omega (arith, fits c)
 
 bit-requires : tie.Need-bit-requires Inv-loop μ-loop
-bit-requires c κs = omega (arith, fits c, c .before .before .before .pre .1)
+bit-requires c κs = omega (arith, fits c, c .before .before .before .before .pre .2)
 
-sub-r : tie.Need-sub-r Inv-loop μ-loop
-sub-r c = omega (arith, c .bit .ensures)
+sub-out : tie.Need-sub-out Inv-loop μ-loop
+sub-out c = omega (arith, c .bit .ensures)
 
-array-write-r : tie.Need-array-write-r Inv-loop μ-loop
-array-write-r c = omega arith
+slice-write-out : tie.Need-slice-write-out Inv-loop μ-loop
+slice-write-out c = omega arith
 
 add-c : tie.Need-add-c Inv-loop μ-loop
 add-c c = omega arith
@@ -62,38 +66,46 @@ loop-less c = omega arith
 
 -- one side more
 more : (c : tie.After-bit Inv-loop μ-loop)
-    → Begun (c .before .before .loop .c + 1) (sidesOf (c .before .before .before .before .args .k) (c .before .before .before .before .args .delta .now))
-    (set (c .before .before .loop .r) (c .before .before .loop .c) (1 - c .bit .result))
+    → (let s = c .before .before .before .before .before in
+    let w = c .before .before .loop in
+    Begun (w .c + 1) (sidesOf (length (s .args .out .now)) (s .args .k) (s .args .delta .now)) (set (w .out) (w .c) (1 - c .bit .result)))
 more c =
-    let s = c .before .before .before .before in
+    let s = c .before .before .before .before .before in
     let w = c .before .before .loop in
     let k = s .args .k in
+    let m : ℕ = length (s .args .out .now) in
     let delta = s .args .delta .now in
+    let long = w .inv .2 in
     let bit = c .bit .ensures ∙ ap (λ (l : ℕ). bitAt delta (w .c - l + (k - 1 - l))) (w .inv .1) in
-    let side = side-bit k (s .pre .0) delta (w .c) ∙ sym (sides-at k delta (w .c) (c .before .loop-test .taken)) in
-    begun-set (w .c) _ (sidesOf k delta) _ (omega (arith, sides-length k delta, c .before .loop-test .taken)) (ap (λ (b : ℕ). 1 - b) bit ∙ side) (w .inv .2)
+    let side = side-bit k (s .pre .0) delta (w .c) ∙ sym (sides-at m k delta (w .c) (omega (arith, c .before .loop-test .taken, long))) in
+    begun-set (w .c) _ (sidesOf m k delta) _ (omega (arith, sides-length m k delta, c .before .loop-test .taken, long)) (ap (λ (b : ℕ). 1 - b) bit ∙ side) (w .inv .3)
 
 loop-again : tie.Need-loop-again Inv-loop μ-loop
 loop-again c =
-    let s = c .before .before .before .before .before in
+    let s = c .before .before .before .before .before .before in
     let w = c .before .before .before .loop in
-    (omega arith, level-wraps _ (s .pre .0) (w .c) (ap (λ (l : ℕ). l + 1) (sym (w .inv .1)) ∙ c .if1 .taken), more (c .before))
+    (omega arith, level-wraps _ (w .c) (s .pre .0) (ap (λ (l : ℕ). l + 1) (sym (w .inv .1)) ∙ c .if1 .taken), length-set (w .out) (w .c) (1 - c .before .bit .result) ∙ w .inv .2, more (c .before))
 
 loop-less-2 : tie.Need-loop-less-2 Inv-loop μ-loop
 loop-less-2 c = omega arith
 
 loop-again-2 : tie.Need-loop-again-2 Inv-loop μ-loop
 loop-again-2 c =
-    let s = c .before .before .before .before .before in
+    let s = c .before .before .before .before .before .before in
     let w = c .before .before .before .loop in
     let same = ap (λ (l : ℕ). l + 1) (w .inv .1) in
-    (omega arith, same ∙ level-next _ (s .pre .0) (w .c) (λ e. c .if1 .left (same ∙ e)), more (c .before))
+    (omega arith, same ∙ level-next _ (w .c) (s .pre .0) (λ e. c .if1 .left (same ∙ e)), length-set (w .out) (w .c) (1 - c .before .bit .result) ∙ w .inv .2, more (c .before))
+
+same-length : tie.Need-same-length Inv-loop μ-loop
+same-length c = c .before .loop .inv .2
 
 returns : tie.Need-returns Inv-loop μ-loop
 returns c =
-    let s = c .before .before .before in
+    let s = c .before .before .before .before in
     let w = c .before .loop in
-    begun-all (w .c) (sidesOf (s .args .k) (s .args .delta .now)) (w .r) (omega (arith, sides-length (s .args .k) (s .args .delta .now))) (w .inv .2)
+    let m : ℕ = length (s .args .out .now) in
+    begun-all (w .c) (sidesOf m (s .args .k) (s .args .delta .now)) (w .out)
+    (omega (arith, sides-length m (s .args .k) (s .args .delta .now), w .inv .2)) (w .inv .3)
 
 pub all-spec : {M : Type 1} → statement M
 all-spec =
@@ -107,12 +119,13 @@ all-spec =
     sub-highest-2
     add-bit
     bit-requires
-    sub-r
-    array-write-r
+    sub-out
+    slice-write-out
     add-c
     add-level
     loop-less
     loop-again
     loop-less-2
     loop-again-2
+    same-length
     returns)

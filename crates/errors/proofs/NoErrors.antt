@@ -10,22 +10,29 @@ use Rattle.words.specs.Xor.{xorList}
 use Rattle.words.proofs.Concat.{part-lt}
 use Rattle.gf64.specs.Field.{foldBytes}
 use Rattle.gf64.proofs.Bytes.{foldBytes-xor, foldBytes-zeros}
-use Rattle.sizes.specs.Sizes.{columns}
-use Rattle.columns.specs.Columns.{receiverTable, treeCorrection}
+use Rattle.tree.specs.Tree.{streamByte}
+use Rattle.sizes.specs.Sizes.{columns, treesOf}
+use Rattle.tree.proofs.Streams.{stream-lt}
+use Rattle.columns.specs.Columns.{treeCorrection}
 use Rattle.consistency.specs.Message.{checkMessage, sentChoice, sentColumn}
 use Rattle.consistency.proofs.Laws.{sent-choice, sent-column}
-use Rattle.theorems.specs.Errors.{Sent, lengthOf, honestChoices, honestColumn, honestCorrection, treeError, choiceError, columnError}
-use Rattle.theorems.specs.Demand3.{ErrorsMeet, EveryColumn}
+use Rattle.errors.specs.Errors.{Sent, lengthOf, honestChoices, honestTable, honestColumn, honestCorrection, treeError, choiceError, columnError, foldedError}
 use Rattle.columns.proofs.Bounds.{uOf-bytes, receiverTable-bytes, correctionOf-bytes}
 
 module _ (s : Sent) (fits : s .key < 2 ^ 64)
     (honest : s .correction ≡ honestCorrection s)
-    (told : s .message ≡ checkMessage (lengthOf s) (s .key) (honestChoices s) (receiverTable (s .width) (s .batch) (lengthOf s) (s .roots))) where
+    (told : s .message ≡ checkMessage columns (lengthOf s) (s .key) (honestChoices s) (honestTable s)) where
   abbrev len : ℕ
   len = lengthOf s
 
-  abbrev v : List ℕ
-  v = receiverTable (s .width) (s .batch) len (s .roots)
+  abbrev n : ℕ
+  n = treesOf (s .width)
+
+  abbrev stream : ℕ → List ℕ → ℕ
+  stream = streamByte (s .batch)
+
+  small : (x : ℕ) (leaf : List ℕ) → stream x leaf < 256
+  small = stream-lt (s .batch)
 
   gone : (x y : ℕ) → x ≡ y → bitXor x y ≡ 0
   gone x y e = ap (λ (z : ℕ). bitXor z y) e ∙ xor-self y
@@ -33,25 +40,26 @@ module _ (s : Sent) (fits : s .key < 2 ^ 64)
   no-choice-error : choiceError s ≡ 0
   no-choice-error =
       gone (sentChoice (s .message)) (foldBytes (s .key) (honestChoices s))
-      (ap sentChoice told ∙ sent-choice len (s .key) (honestChoices s) v fits (uOf-bytes (s .width) (s .batch) len _))
+      (ap sentChoice told ∙ sent-choice columns len (s .key) (honestChoices s) (honestTable s) fits (uOf-bytes stream small (s .width) len _))
 
   no-column-error : (c : ℕ) → c < columns → columnError s c ≡ 0
   no-column-error c lt =
       gone (sentColumn (s .message) c) (foldBytes (s .key) (honestColumn s c))
       (ap (λ (m : List ℕ). sentColumn m c) told
-      ∙ sent-column len (s .key) (honestChoices s) v fits (receiverTable-bytes (s .width) (s .batch) len (s .roots)) c lt)
+      ∙ sent-column columns len (s .key) (honestChoices s) (honestTable s) fits (receiverTable-bytes stream small n (s .width) len (s .roots)) c lt)
 
   no-tree-error : (i : ℕ) → foldBytes (s .key) (treeError s i) ≡ 0
   unfolding treeError treeCorrection
   no-tree-error zero = foldBytes-zeros (s .key) len
   no-tree-error (suc i) =
       let own : List ℕ = part (i * len) len (honestCorrection s) in
-      let small : Bytes own = part-lt (i * len) len (honestCorrection s) 256 (zero-lt-suc 255) (correctionOf-bytes (s .width) (s .batch) len (s .roots)) in
+      let bytes : Bytes own = part-lt (i * len) len (honestCorrection s) 256 (zero-lt-suc 255) (correctionOf-bytes stream small n (s .width) len (s .roots)) in
       ap (λ (l : List ℕ). foldBytes (s .key) (xorList (part (i * len) len l) own)) honest
-      ∙ foldBytes-xor (s .key) own own refl small small
+      ∙ foldBytes-xor (s .key) own own refl bytes bytes
       ∙ xor-self (foldBytes (s .key) own)
 
-  pub all-meet : (delta : List ℕ) → EveryColumn (ErrorsMeet s delta)
+  -- so the errors meet in every column, whatever delta is
+  pub all-meet : (delta : List ℕ) (c : ℕ) → c < columns → bitAt delta c * foldedError s (c / s .width) ≡ columnError s c
   all-meet delta c lt =
       ap (λ (e : ℕ). bitAt delta c * e) (ap₂ bitXor no-choice-error (no-tree-error (c / s .width)))
       ∙ mul-zero (bitAt delta c)
