@@ -12,7 +12,8 @@ import chacha20
 import gf64
 import setup
 import sha256
-from setup import DONE, LENGTH, NODE, TRANSFERS, WIDTH, WIDTHS
+import sizes
+from setup import DONE, LENGTH, NODE, WIDTH, WIDTHS
 
 STAGE, BATCH, BLOCKS, CHECK = 2, 3, 4, 6
 READY, OPEN, CLOSED = 0, 1, 2
@@ -22,10 +23,6 @@ Record = collections.namedtuple("Record", "width last blocks stage")
 
 def xor(numbers):
     return functools.reduce(lambda a, b: a ^ b, numbers, 0)
-
-
-def column_length(blocks):
-    return 8 * (blocks + 1)
 
 
 def xor_bytes(a, b):
@@ -67,7 +64,7 @@ def receiver_leaves(width, roots):
 @functools.lru_cache(maxsize=8)
 def sender_leaves(width, delta, siblings):
     """The leaves of each tree that the nodes beside its path lead to: all but the one at the path's end."""
-    trees = range(TRANSFERS // width)
+    trees = range(sizes.trees_of(width))
     beside = [setup.beside(width, setup.delta_of(width, delta, i)) for i in trees]
     nodes = [[] for _ in trees]
     for level in range(width):
@@ -129,26 +126,32 @@ def sender_table(width, siblings, delta, batch, length, correction):
     return stored(out, length)
 
 
-def row(table, length, j):
-    """Bit j of each of the 128 columns."""
-    bits = (table[c * length + j // 8] >> j % 8 & 1 for c in range(TRANSFERS))
+def row(width, table, length, j):
+    """Bit j of each column."""
+    bits = (table[c * length + j // 8] >> j % 8 & 1 for c in range(sizes.columns(width)))
     return sum(bit << c for c, bit in enumerate(bits))
 
 
-def pad(batch, j, value):
-    return sha256.digest(b"PADS" + batch.to_bytes(8, "little") + j.to_bytes(4, "little") + value.to_bytes(16, "little"))
+def rows(width, blocks, table):
+    """The row values that get pads."""
+    length = sizes.column_length(width, blocks)
+    return [row(width, table, length, j) for j in range(sizes.transfers(width, blocks))]
 
 
-def receiver_pads(batch, blocks, table):
-    length = column_length(blocks)
-    return b"".join(pad(batch, j, row(table, length, j)) for j in range(64 * blocks))
+def pad(width, batch, j, value):
+    head = b"PADS" + batch.to_bytes(8, "little") + j.to_bytes(4, "little")
+    return sha256.digest(head + value.to_bytes(sizes.delta_length(width), "little"))
 
 
-def sender_pads(batch, blocks, table, delta):
+def receiver_pads(width, batch, blocks, table):
+    return b"".join(pad(width, batch, j, value) for j, value in enumerate(rows(width, blocks, table)))
+
+
+def sender_pads(width, batch, blocks, table, delta):
     """Pad 0 before pad 1 in each row."""
-    length, d = column_length(blocks), int.from_bytes(delta, "little")
-    rows = [row(table, length, j) for j in range(64 * blocks)]
-    return b"".join(pad(batch, j, value) + pad(batch, j, value ^ d) for j, value in enumerate(rows))
+    d = int.from_bytes(delta, "little")
+    both = (pad(width, batch, j, value) + pad(width, batch, j, value ^ d) for j, value in enumerate(rows(width, blocks, table)))
+    return b"".join(both)
 
 
 def folds(key, table, length):
@@ -159,12 +162,12 @@ def check_message(key, choices, table):
     return b"".join(x.to_bytes(8, "little") for x in folds(key, choices + table, len(choices)))
 
 
-def accepts(key, table, delta, message):
+def accepts(width, key, table, delta, message):
     """Whether in every column the sent fold ⊕ the fold of W is the sent choice fold where delta has the bit, and 0 elsewhere."""
     first, *sent = gf64.words(message)
-    d = int.from_bytes(delta, "little")
-    mine = folds(key, table, len(table) // TRANSFERS)
-    return all(sent[c] ^ mine[c] == (first if d >> c & 1 else 0) for c in range(TRANSFERS))
+    d, columns = int.from_bytes(delta, "little"), sizes.columns(width)
+    mine = folds(key, table, len(table) // columns)
+    return all(sent[c] ^ mine[c] == (first if d >> c & 1 else 0) for c in range(columns))
 
 
 # The steps. Each gives the answer's number, the record, and what the ranges out then hold.
@@ -197,25 +200,26 @@ def ending(record, lengths):
 
 def start_lengths(width, blocks):
     """Roots, choices, table, correction."""
-    length = column_length(blocks)
-    return [setup.roots_length(width), length, TRANSFERS * length, (TRANSFERS // width - 1) * length]
+    return [sizes.roots_length(width), sizes.column_length(width, blocks), sizes.table_length(width, blocks),
+            sizes.correction_length(width, blocks)]
 
 
 def correct_lengths(width, blocks):
     """Siblings, delta, correction, table."""
-    length = column_length(blocks)
-    return [NODE * TRANSFERS, TRANSFERS // 8, (TRANSFERS // width - 1) * length, TRANSFERS * length]
+    return [sizes.siblings_length(width), sizes.delta_length(width), sizes.correction_length(width, blocks),
+            sizes.table_length(width, blocks)]
 
 
-def answer_lengths(blocks):
+def answer_lengths(width, blocks):
     """Choices, table, message, pads."""
-    length = column_length(blocks)
-    return [length, TRANSFERS * length, 8 * (1 + TRANSFERS), 2048 * blocks]
+    return [sizes.column_length(width, blocks), sizes.table_length(width, blocks), sizes.check_message_length(width),
+            sizes.receiver_pads_length(width, blocks)]
 
 
-def verify_lengths(blocks):
+def verify_lengths(width, blocks):
     """Table, delta, message, pads."""
-    return [TRANSFERS * column_length(blocks), TRANSFERS // 8, 8 * (1 + TRANSFERS), 4096 * blocks]
+    return [sizes.table_length(width, blocks), sizes.delta_length(width), sizes.check_message_length(width),
+            sizes.sender_pads_length(width, blocks)]
 
 
 def lengths_of(ranges):
@@ -235,7 +239,7 @@ def receiver_start(record, batch, blocks, roots, choices, table, correction):
     if answer != DONE:
         return answer, record, choices, table, correction
     after = Record(record.width, batch, blocks, OPEN)
-    return (DONE, after) + receiver_batch(record.width, roots, batch, column_length(blocks))
+    return (DONE, after) + receiver_batch(record.width, roots, batch, sizes.column_length(record.width, blocks))
 
 
 def sender_correct(record, batch, blocks, siblings, delta, correction, table):
@@ -243,28 +247,28 @@ def sender_correct(record, batch, blocks, siblings, delta, correction, table):
     answer = opening(record, batch, blocks, lambda: given == correct_lengths(record.width, blocks))
     if answer != DONE:
         return answer, record, table
-    after = Record(record.width, batch, blocks, OPEN)
-    return DONE, after, sender_table(record.width, siblings, delta, batch, column_length(blocks), correction)
+    after, length = Record(record.width, batch, blocks, OPEN), sizes.column_length(record.width, blocks)
+    return DONE, after, sender_table(record.width, siblings, delta, batch, length, correction)
 
 
 def receiver_answer(record, key, choices, table, message, pads):
     given = lengths_of((choices, table, message, pads))
-    answer = ending(record, lambda: given == answer_lengths(record.blocks))
+    answer = ending(record, lambda: given == answer_lengths(record.width, record.blocks))
     if answer != DONE:
         return answer, record, message, pads
     after = Record(record.width, record.last, 0, READY)
-    return DONE, after, check_message(key, choices, table), receiver_pads(record.last, record.blocks, table)
+    return DONE, after, check_message(key, choices, table), receiver_pads(record.width, record.last, record.blocks, table)
 
 
 def sender_verify(record, key, table, delta, message, pads):
     given = lengths_of((table, delta, message, pads))
-    answer = ending(record, lambda: given == verify_lengths(record.blocks))
+    answer = ending(record, lambda: given == verify_lengths(record.width, record.blocks))
     if answer != DONE:
         return answer, record, pads
-    if not accepts(key, table, delta, message):
+    if not accepts(record.width, key, table, delta, message):
         return CHECK, record._replace(stage=CLOSED), pads
     after = Record(record.width, record.last, 0, READY)
-    return DONE, after, sender_pads(record.last, record.blocks, table, delta)
+    return DONE, after, sender_pads(record.width, record.last, record.blocks, table, delta)
 
 
 # What an honest batch has, and how a damaged one is judged.
@@ -272,8 +276,8 @@ def sender_verify(record, key, table, delta, message, pads):
 def check_honest(rng, width, batch, blocks):
     """Row j of W is row j of V, ⊕ delta where the choice is 1; the sender accepts; and the receiver's pad is the sender's of the
     choice's number."""
-    roots, delta, key = rng.randbytes(setup.roots_length(width)), rng.randbytes(16), rng.randrange(1 << 64)
-    length = column_length(blocks)
+    roots, delta = rng.randbytes(sizes.roots_length(width)), rng.randbytes(sizes.delta_length(width))
+    key, length = rng.randrange(1 << 64), sizes.column_length(width, blocks)
     siblings = setup.beside_paths(width, delta, roots)
     choices, v, correction = receiver_batch(width, roots, batch, length)
     w = sender_table(width, siblings, delta, batch, length, correction)
@@ -281,12 +285,12 @@ def check_honest(rng, width, batch, blocks):
     chosen = [choices[j // 8] >> j % 8 & 1 for j in range(8 * length)]
     assert 0 < sum(chosen) < 8 * length
     for j, choice in enumerate(chosen):
-        assert row(w, length, j) == row(v, length, j) ^ (d if choice else 0)
-    given = Record(width, batch, blocks, OPEN)
-    answer, after, both = sender_verify(given, key, w, delta, check_message(key, choices, v), bytes(4096 * blocks))
+        assert row(width, w, length, j) == row(width, v, length, j) ^ (d if choice else 0)
+    given, before = Record(width, batch, blocks, OPEN), bytes(sizes.sender_pads_length(width, blocks))
+    answer, after, both = sender_verify(given, key, w, delta, check_message(key, choices, v), before)
     assert (answer, after) == (DONE, Record(width, batch, 0, READY))
-    mine, both = parts(receiver_pads(batch, blocks, v), 32), parts(both, 32)
-    assert mine == [both[2 * j + chosen[j]] for j in range(64 * blocks)]
+    mine, both = parts(receiver_pads(width, batch, blocks, v), 32), parts(both, 32)
+    assert mine == [both[2 * j + chosen[j]] for j in range(sizes.transfers(width, blocks))]
 
 
 def equation_holds(width, key, delta, errors, choice, sent):
@@ -294,33 +298,34 @@ def equation_holds(width, key, delta, errors, choice, sent):
     given, one a tree, the first is 0; the others are those of the sent choice fold and of the sent folds."""
     d = int.from_bytes(delta, "little")
     folded = [choice ^ gf64.fold(key, gf64.words(error)) for error in errors]
-    return all((folded[c // width] if d >> c & 1 else 0) == sent[c] for c in range(TRANSFERS))
+    return all((folded[c // width] if d >> c & 1 else 0) == sent[c] for c in range(sizes.columns(width)))
 
 
 def damages(rng, width, key, delta, length):
     """Errors of the trees, of the sent choice fold and of the sent folds: at random in one place each, and those that a receiver sends
     who guesses one tree's part of delta, and guesses right or not."""
-    trees = TRANSFERS // width
+    trees, columns = sizes.trees_of(width), sizes.columns(width)
     for i in rng.sample(range(1, trees), 4):
         d, error = setup.delta_of(width, delta, i), rng.randbytes(length)
         folded = gf64.fold(key, gf64.words(error))
         for guess in {0, d, d ^ 1, d ^ 1 << width - 1}:
-            sent = [folded if c // width == i and guess >> c % width & 1 else 0 for c in range(TRANSFERS)]
+            sent = [folded if c // width == i and guess >> c % width & 1 else 0 for c in range(columns)]
             yield [error if x == i else bytes(length) for x in range(trees)], 0, sent
     clean = [bytes(length)] * trees
-    yield clean, 1 << rng.randrange(64), [0] * TRANSFERS
+    yield clean, 1 << rng.randrange(64), [0] * columns
     for _ in range(3):
-        c = rng.randrange(TRANSFERS)
-        yield clean, 0, [1 << rng.randrange(64) if x == c else 0 for x in range(TRANSFERS)]
+        c = rng.randrange(columns)
+        yield clean, 0, [1 << rng.randrange(64) if x == c else 0 for x in range(columns)]
 
 
 def check_damaged(rng, width, batch, blocks, delta):
     """A damaged batch is accepted just where demand 3's equation holds, and gives the pads of its W; one that isn't accepted closes the
     record and leaves the pads. Both must occur."""
-    roots, key, length = rng.randbytes(setup.roots_length(width)), rng.randrange(1, 1 << 64), column_length(blocks)
+    roots, key = rng.randbytes(sizes.roots_length(width)), rng.randrange(1, 1 << 64)
+    length, verdicts = sizes.column_length(width, blocks), set()
     siblings = setup.beside_paths(width, delta, roots)
     choices, v, correction = receiver_batch(width, roots, batch, length)
-    message, before, verdicts = check_message(key, choices, v), rng.randbytes(4096 * blocks), set()
+    message, before = check_message(key, choices, v), rng.randbytes(sizes.sender_pads_length(width, blocks))
     given = Record(width, batch, blocks, OPEN)
     for errors, choice, sent in damages(rng, width, key, delta, length):
         w = sender_table(width, siblings, delta, batch, length, xor_bytes(correction, b"".join(errors[1:])))
@@ -329,7 +334,7 @@ def check_damaged(rng, width, batch, blocks, delta):
         verdicts.add(answer)
         if equation_holds(width, key, delta, errors, choice, sent):
             assert (answer, after) == (DONE, Record(width, batch, 0, READY))
-            assert pads == sender_pads(batch, blocks, w, delta)
+            assert pads == sender_pads(width, batch, blocks, w, delta)
         else:
             assert (answer, after, pads) == (CHECK, Record(width, batch, blocks, CLOSED), before)
     assert verdicts == {DONE, CHECK}
@@ -353,7 +358,7 @@ def check():
     check_columns(1, [0, 1], 1, 1, [(0, 1), (1, 0)])
     rng = random.Random(15)
     for width in WIDTHS:
-        roots, delta = rng.randbytes(setup.roots_length(width)), rng.randbytes(16)
+        roots, delta = rng.randbytes(sizes.roots_length(width)), rng.randbytes(sizes.delta_length(width))
         mine = sender_leaves(width, delta, setup.beside_paths(width, delta, roots))
         for i, tree in enumerate(receiver_leaves(width, roots)):
             assert tree == list(enumerate(setup.tree(setup.node_at(roots, i), width)[-1]))
@@ -361,5 +366,5 @@ def check():
             assert sorted(mine[i]) == tree[:d] + tree[d + 1:]
         check_honest(rng, width, rng.randrange(1, 1 << 32), 1)
         check_honest(rng, width, rng.randrange(1, 1 << 32), rng.randrange(2, 5))
-        for given in (delta, bytes(16), b"\xff" * 16):
+        for given in (delta, bytes(len(delta)), b"\xff" * len(delta)):
             check_damaged(rng, width, rng.randrange(1, 1 << 32), 1, given)

@@ -6,9 +6,9 @@ The paper's chooser is the receiver here, its keeper the sender, D is delta and 
 import random
 
 import chacha20
+import sizes
 
 WIDTHS = (1, 2, 4, 8)
-TRANSFERS = 128
 NODE = 32
 
 DONE, WIDTH, LENGTH = 0, 1, 5
@@ -37,10 +37,6 @@ def tree(root, width):
     return depths
 
 
-def roots_length(width):
-    return NODE * (TRANSFERS // width)
-
-
 def node_at(data, number):
     return data[NODE * number:NODE * number + NODE]
 
@@ -65,16 +61,28 @@ def beside(width, d):
     return numbers
 
 
+# The lengths that the ranges of a step must have, in the order of its parameters.
+
+def receiver_setup_lengths(width):
+    """Roots, base pads, message."""
+    return [sizes.roots_length(width), sizes.receiver_base_pads_length(width), sizes.setup_message_length(width)]
+
+
+def sender_setup_lengths(width):
+    """Delta, base pads, message, siblings."""
+    return [sizes.delta_length(width), sizes.sender_base_pads_length(width), sizes.setup_message_length(width),
+            sizes.siblings_length(width)]
+
+
 # The steps. Each gives the answer's number and what the range out then holds.
 
 def receiver_setup(width, roots, base_pads, message):
     if width not in WIDTHS:
         return WIDTH, message
-    lengths = (len(roots), len(base_pads), len(message))
-    if lengths != (roots_length(width), 2 * NODE * TRANSFERS, 2 * NODE * TRANSFERS):
+    if [len(roots), len(base_pads), len(message)] != receiver_setup_lengths(width):
         return LENGTH, message
     out = b""
-    for i in range(TRANSFERS // width):
+    for i in range(sizes.trees_of(width)):
         depths = tree(node_at(roots, i), width)
         for level in range(width):
             transfer = i * width + level
@@ -103,11 +111,10 @@ def tree_siblings(width, d, totals, pads):
 def sender_setup(width, delta, base_pads, message, siblings):
     if width not in WIDTHS:
         return WIDTH, siblings
-    lengths = (len(delta), len(base_pads), len(message), len(siblings))
-    if lengths != (TRANSFERS // 8, NODE * TRANSFERS, 2 * NODE * TRANSFERS, NODE * TRANSFERS):
+    if [len(delta), len(base_pads), len(message), len(siblings)] != sender_setup_lengths(width):
         return LENGTH, siblings
     out = b""
-    for i in range(TRANSFERS // width):
+    for i in range(sizes.trees_of(width)):
         first = i * width
         totals = [node_at(message, 2 * first + x) for x in range(2 * width)]
         pads = [node_at(base_pads, first + level) for level in range(width)]
@@ -120,7 +127,7 @@ def sender_setup(width, delta, base_pads, message, siblings):
 def sender_pads(width, delta, base_pads):
     """Of each base transfer's two pads the one numbered 1 minus the path bit."""
     out = b""
-    for i in range(TRANSFERS // width):
+    for i in range(sizes.trees_of(width)):
         for level, bit in enumerate(path(width, delta_of(width, delta, i))):
             out += node_at(base_pads, 2 * (i * width + level) + 1 - bit)
     return out
@@ -129,7 +136,7 @@ def sender_pads(width, delta, base_pads):
 def beside_paths(width, delta, roots):
     """The nodes beside the paths, read from the receiver's whole trees."""
     out = b""
-    for i in range(TRANSFERS // width):
+    for i in range(sizes.trees_of(width)):
         depths = tree(node_at(roots, i), width)
         for level, number in enumerate(beside(width, delta_of(width, delta, i))):
             out += depths[level + 1][number]
@@ -143,8 +150,10 @@ def check():
     assert [1 - bit for bit in path(4, 4)] == [1, 0, 1, 1]
     rng = random.Random(11)
     for width in WIDTHS:
-        roots, pads, delta = rng.randbytes(roots_length(width)), rng.randbytes(8192), rng.randbytes(16)
-        answer, message = receiver_setup(width, roots, pads, bytes(8192))
+        roots, pads = rng.randbytes(sizes.roots_length(width)), rng.randbytes(sizes.receiver_base_pads_length(width))
+        delta = rng.randbytes(sizes.delta_length(width))
+        answer, message = receiver_setup(width, roots, pads, bytes(sizes.setup_message_length(width)))
         assert answer == DONE
         mine = sender_pads(width, delta, pads)
-        assert sender_setup(width, delta, mine, message, bytes(4096)) == (DONE, beside_paths(width, delta, roots))
+        answer, siblings = sender_setup(width, delta, mine, message, bytes(sizes.siblings_length(width)))
+        assert (answer, siblings) == (DONE, beside_paths(width, delta, roots))

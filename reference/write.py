@@ -17,6 +17,7 @@ import gf64
 import published
 import setup
 import sha256
+import sizes
 
 ROOT = pathlib.Path(__file__).resolve().parent.parent
 
@@ -172,9 +173,10 @@ class Batches(Records):
         """A whole batch, on the siblings of an honest setup; its base pads are all 0. The damage has triples of a range, a place and what
         is added there. The ranges that the seed gives are roots, choices, V, correction, W, message and both sides' pads. The answers of
         the four steps."""
-        length = batch.start_lengths(width, blocks) + [2048 * blocks, 4096 * blocks]
+        length = batch.start_lengths(width, blocks)
+        length += [sizes.receiver_pads_length(width, blocks), sizes.sender_pads_length(width, blocks)]
         roots, choices, v, correction = [derived(seed, i, n) for i, n in enumerate(length[:4])]
-        w, message = derived(seed, 4, len(v)), derived(seed, 5, 1032)
+        w, message = derived(seed, 4, len(v)), derived(seed, 5, sizes.check_message_length(width))
         mine, both = derived(seed, 6, length[4]), derived(seed, 7, length[5])
         payload = numbers(number, blocks) + key.to_bytes(8, "little") + numbers(seed) + delta + numbers(*length)
         payload += b"".join(numbers(place) + bytes([what, 0, mask, 0]) for what, place, mask in damage)
@@ -218,13 +220,14 @@ def wrong_lengths(lengths):
 
 def setups_done(v, rng):
     for width in setup.WIDTHS:
-        roots, pads = rng.randbytes(setup.roots_length(width)), rng.randbytes(8192)
-        _, message = v.receiver_setup(width, roots, pads, fill(8192))
-        for delta in (rng.randbytes(16), bytes(16), b"\xff" * 16):
-            mine = setup.sender_pads(width, delta, pads)
-            done = v.sender_setup(width, delta, mine, message, fill(4096))
-            assert done == (setup.DONE, setup.beside_paths(width, delta, roots))
-        v.sender_setup(width, rng.randbytes(16), rng.randbytes(4096), rng.randbytes(8192), fill(4096))
+        roots, pads = rng.randbytes(sizes.roots_length(width)), rng.randbytes(sizes.receiver_base_pads_length(width))
+        delta, siblings = rng.randbytes(sizes.delta_length(width)), fill(sizes.siblings_length(width))
+        _, message = v.receiver_setup(width, roots, pads, fill(sizes.setup_message_length(width)))
+        for given in (delta, bytes(len(delta)), b"\xff" * len(delta)):
+            mine = setup.sender_pads(width, given, pads)
+            done = v.sender_setup(width, given, mine, message, siblings)
+            assert done == (setup.DONE, setup.beside_paths(width, given, roots))
+        v.sender_setup(width, *map(rng.randbytes, setup.sender_setup_lengths(width)[:3]), siblings)
 
 
 def setups_refused(v):
@@ -234,18 +237,18 @@ def setups_refused(v):
     def sender(width, lengths, number):
         assert v.sender_setup(width, *map(fill, lengths))[0] == number
 
-    for lengths in wrong_lengths([512, 8192, 8192]):
+    for lengths in wrong_lengths(setup.receiver_setup_lengths(8)):
         receiver(8, lengths, setup.LENGTH)
-    receiver(1, [512, 8192, 8192], setup.LENGTH)
-    receiver(8, [4096, 8192, 8192], setup.LENGTH)
-    for lengths in wrong_lengths([16, 4096, 8192, 4096]):
+    receiver(1, setup.receiver_setup_lengths(8), setup.LENGTH)
+    receiver(8, setup.receiver_setup_lengths(1), setup.LENGTH)
+    for lengths in wrong_lengths(setup.sender_setup_lengths(4)):
         sender(4, lengths, setup.LENGTH)
     for width in (0, 3, 5, 16, (1 << 32) - 1):
-        receiver(width, [setup.roots_length(max(width, 1)), 8192, 8192], setup.WIDTH)
-        sender(width, [16, 4096, 8192, 4096], setup.WIDTH)
-    receiver(3, [setup.roots_length(3), 8192, 8191], setup.WIDTH)
+        receiver(width, setup.receiver_setup_lengths(max(width, 1)), setup.WIDTH)
+        sender(width, setup.sender_setup_lengths(max(width, 1)), setup.WIDTH)
+    receiver(3, [*setup.receiver_setup_lengths(3)[:2], 8191], setup.WIDTH)
     receiver(3, [1, 2, 3], setup.WIDTH)
-    sender(3, [15, 4096, 8192, 4096], setup.WIDTH)
+    sender(3, [15, *setup.sender_setup_lengths(3)[1:]], setup.WIDTH)
     sender(3, [1, 2, 3, 4], setup.WIDTH)
 
 
@@ -261,12 +264,12 @@ ACCEPTED = [batch.DONE] * 4
 REFUSED = [batch.DONE] * 3 + [batch.CHECK]
 
 
-def session(v, rng, width, sizes):
+def session(v, rng, width, blocks_each):
     """Two sessions on three honest batches, from their opening on. A number that was had is refused on both sides, and so is every one
     after the last that there is."""
-    seed, delta = v.records, rng.randbytes(16)
+    seed, delta = v.records, rng.randbytes(sizes.delta_length(width))
     assert v.open(width) == batch.DONE
-    for number, blocks in zip((1, 2, MOST), sizes):
+    for number, blocks in zip((1, 2, MOST), blocks_each):
         assert v.batch(seed, width, number, blocks, rng.randrange(1 << 64), delta) == ACCEPTED
         assert v.receiver == v.sender == ready(width, number)
         for again in {number, 1}:
@@ -277,8 +280,8 @@ def session(v, rng, width, sizes):
 
 def closed_session(v, rng, width):
     """A check that fails closes the sender's session: it refuses every further step by its stage, until it is opened again."""
-    seed, delta = v.records, rng.randbytes(15) + b"\xff"
-    last = (128 // width - 1) * batch.column_length(1) - 1
+    seed, delta = v.records, rng.randbytes(sizes.delta_length(width) - 1) + b"\xff"
+    last = sizes.correction_length(width, 1) - 1
     v.open(width)
     assert v.batch(seed, width, 1, 1, 27, delta, [(CORRECTION, last, 1)]) == REFUSED
     assert v.sender == batch.Record(width, 1, 1, batch.CLOSED)
@@ -318,22 +321,23 @@ def corrections_damaged(v, rng, width):
     """One bit of the correction altered, in each tree in turn: accepted just where delta_i is 0. Of delta every third tree's part is 0, so
     both occur."""
     seed, number, key = v.records, rng.randrange(1, 1 << 32), rng.randrange(1, 1 << 64)
-    d = sum(rng.randrange(1, 1 << width) << i * width for i in range(128 // width) if i % 3)
-    delta, length, accepted = d.to_bytes(16, "little"), batch.column_length(1), 0
-    for i in range(1, 128 // width):
+    trees, length, accepted = sizes.trees_of(width), sizes.column_length(width, 1), 0
+    d = sum(rng.randrange(1, 1 << width) << i * width for i in range(trees) if i % 3)
+    delta = d.to_bytes(sizes.delta_length(width), "little")
+    for i in range(1, trees):
         damage = [(CORRECTION, (i - 1) * length + rng.randrange(length), 1 << rng.randrange(8))]
         verdict = played(v, seed, width, number, key, delta, damage)
         assert verdict == (setup.delta_of(width, delta, i) == 0)
         accepted += verdict
-    assert 0 < accepted < 128 // width - 1
+    assert 0 < accepted < trees - 1
 
 
 def guesses(v, rng, width):
     """A receiver that guesses a tree's part of delta: it alters that tree's correction, and adds the folded error to the sent folds of
     those columns whose bit it takes to be 1. Accepted just where the guess is right."""
-    seed, number, key, delta = v.records, rng.randrange(1, 1 << 32), rng.randrange(1, 1 << 64), rng.randbytes(16)
-    length = batch.column_length(1)
-    for i in (1, 128 // width // 2, 128 // width - 1):
+    seed, number, key = v.records, rng.randrange(1, 1 << 32), rng.randrange(1, 1 << 64)
+    delta, trees, length = rng.randbytes(sizes.delta_length(width)), sizes.trees_of(width), sizes.column_length(width, 1)
+    for i in (1, trees // 2, trees - 1):
         d, place, mask = setup.delta_of(width, delta, i), rng.randrange(length), rng.randrange(1, 256)
         error = gf64.fold(key, gf64.words(damaged([(0, place, mask)], 0, bytes(length)))).to_bytes(8, "little")
         for guess in sorted({d, d ^ 1, d ^ 1 << width - 1, 0}):
@@ -345,31 +349,33 @@ def guesses(v, rng, width):
 
 def messages_damaged(v, rng, width, folds):
     """One bit of the check message altered, in each of the folds named: refused, but for the choice fold where delta is 0."""
-    seed, number, key, delta = v.records, rng.randrange(1, 1 << 32), rng.randrange(1 << 64), rng.randbytes(16)
+    seed, number, key = v.records, rng.randrange(1, 1 << 32), rng.randrange(1 << 64)
+    delta, length = rng.randbytes(sizes.delta_length(width)), sizes.check_message_length(width)
     for fold in folds:
         damage = [(MESSAGE, 8 * fold + rng.randrange(8), 1 << rng.randrange(8))]
         assert not played(v, seed, width, number, key, delta, damage)
-    assert played(v, seed, width, number, key, bytes(16), [(MESSAGE, rng.randrange(8), 1)])
-    assert not played(v, seed, width, number, key, bytes(16), [(MESSAGE, 8 + rng.randrange(1024), 1)])
+    zeros = bytes(len(delta))
+    assert played(v, seed, width, number, key, zeros, [(MESSAGE, rng.randrange(8), 1)])
+    assert not played(v, seed, width, number, key, zeros, [(MESSAGE, rng.randrange(8, length), 1)])
 
 
 def verifies_damaged(v, rng, width):
     """A verify on another delta, W or key than the batch's, each altered in one bit; the key 0, which hides all but the last word; and
     delta 0 and all ones."""
-    seed, number, key, delta = v.records, rng.randrange(1, 1 << 32), rng.randrange(1 << 64), rng.randbytes(16)
-    length = 16
-    for place in (0, rng.randrange(16), 15):
+    seed, number, key = v.records, rng.randrange(1, 1 << 32), rng.randrange(1 << 64)
+    delta, columns, length = rng.randbytes(sizes.delta_length(width)), sizes.columns(width), sizes.column_length(width, 1)
+    for place in (0, rng.randrange(len(delta)), len(delta) - 1):
         assert not played(v, seed, width, number, key, delta, [(DELTA, place, 1 << rng.randrange(8))])
-    for column in (0, rng.randrange(128), 127):
+    for column in (0, rng.randrange(columns), columns - 1):
         damage = [(TABLE, column * length + rng.randrange(length), 1 << rng.randrange(8))]
         assert not played(v, seed, width, number, key, delta, damage)
     for place in (0, 7):
         assert not played(v, seed, width, number, key, delta, [(KEY, place, 1 << rng.randrange(8))])
-    ones = b"\xff" * 16
-    for given in (bytes(16), ones):
+    zeros, ones = bytes(len(delta)), b"\xff" * len(delta)
+    for given in (zeros, ones):
         assert played(v, seed, width, number, key, given, [])
         assert played(v, seed, width, number, 0, given, [(CORRECTION, 0, 255)])
-    assert played(v, seed, width, number, key, bytes(16), [(CORRECTION, 8, 1)])
+    assert played(v, seed, width, number, key, zeros, [(CORRECTION, 8, 1)])
     assert not played(v, seed, width, number, key, ones, [(CORRECTION, 8, 1)])
     assert not played(v, seed, width, number, 0, ones, [(CORRECTION, 8, 1)])
 
@@ -383,9 +389,9 @@ def steps_done(v, rng, width):
         assert v.sender_correct(record, number, blocks, batch.correct_lengths(width, blocks))[0] == batch.DONE
         for key in (rng.randrange(1 << 64), 0, MOST << 32 | MOST):
             record = opened(width, number, blocks)
-            assert v.receiver_answer(record, key, batch.answer_lengths(blocks))[0] == batch.DONE
+            assert v.receiver_answer(record, key, batch.answer_lengths(width, blocks))[0] == batch.DONE
             closed = batch.CHECK, record._replace(stage=batch.CLOSED)
-            assert v.sender_verify(record, key, batch.verify_lengths(blocks)) == closed
+            assert v.sender_verify(record, key, batch.verify_lengths(width, blocks)) == closed
 
 
 def opening_refused(call, lengths_of):
@@ -418,7 +424,7 @@ def opening_refused(call, lengths_of):
 
 def ending_refused(call, lengths_of):
     """What either step that ends a batch refuses, by the record and the lengths alone."""
-    right = lengths_of(1)
+    right = lengths_of(8, 1)
 
     def refused(number, record, lengths):
         assert call(batch.Record(*record), 27, lengths) == (number, record)
@@ -435,11 +441,11 @@ def ending_refused(call, lengths_of):
     for blocks in (0, 16, 17, MOST):
         refused(batch.BLOCKS, (8, 1, blocks, 1), right)
         refused(batch.BLOCKS, (8, 1, blocks, 1), [1, 2, 3, 4])
-    refused(batch.BLOCKS, (8, 1, 0, 1), lengths_of(0))
+    refused(batch.BLOCKS, (8, 1, 0, 1), lengths_of(8, 0))
     for width, blocks in ((8, 1), (1, 15)):
-        for lengths in wrong_lengths(lengths_of(blocks)):
+        for lengths in wrong_lengths(lengths_of(width, blocks)):
             refused(batch.LENGTH, (width, MOST, blocks, 1), lengths)
-        refused(batch.LENGTH, (width, MOST, blocks, 1), lengths_of(blocks - 1))
+        refused(batch.LENGTH, (width, MOST, blocks, 1), lengths_of(width, blocks - 1))
 
 
 def batches():
@@ -447,12 +453,13 @@ def batches():
     v = Batches()
     openings(v)
     for width in setup.WIDTHS:
-        for sizes in ((15, 1, 2), (1, 2, 15), (2, 15, 1)):
-            session(v, rng, width, sizes)
+        for blocks_each in ((15, 1, 2), (1, 2, 15), (2, 15, 1)):
+            session(v, rng, width, blocks_each)
         closed_session(v, rng, width)
         corrections_damaged(v, rng, width)
         guesses(v, rng, width)
-        messages_damaged(v, rng, width, range(129) if width == 4 else (0, 1, 2, 64, 128))
+        columns = sizes.columns(width)
+        messages_damaged(v, rng, width, range(1 + columns) if width == 4 else (0, 1, 2, columns // 2, columns))
         verifies_damaged(v, rng, width)
         steps_done(v, rng, width)
     opening_refused(v.receiver_start, batch.start_lengths)
@@ -492,7 +499,7 @@ def vectors():
         v.four_digests([rng.randbytes(32) for _ in range(4)])
     for count in range(1, 17):
         v.four_folds(rng.randrange(1 << 64), [rng.randbytes(8 * count) for _ in range(4)])
-    v.four_folds((1 << 64) - 1, [b"\xff" * 128] * 4)
+    v.four_folds((1 << 64) - 1, [b"\xff" * (8 * 16)] * 4)
     setups_done(v, rng)
     setups_refused(v)
     assert len(v.asked) <= LIMIT
@@ -503,7 +510,7 @@ def session_cases(width):
     """What tests/host lends to the steps of a session of two batches, and what they must give: the roots, the siblings of an honest
     setup and delta; of each batch its number, blocks and key, and of each step the answer, the record and what it writes."""
     rng = random.Random(1032 + width)
-    roots, delta = rng.randbytes(setup.roots_length(width)), rng.randbytes(16)
+    roots, delta = rng.randbytes(sizes.roots_length(width)), rng.randbytes(sizes.delta_length(width))
     siblings = honest_siblings(width, delta, roots)
     out = roots + siblings + delta
     receiver = sender = batch.open_session(ready(0, 0), width)[1]
@@ -514,9 +521,10 @@ def session_cases(width):
         _, receiver, choices, v, correction = started
         corrected = batch.sender_correct(sender, number, blocks, siblings, delta, correction, bytes(lengths[2]))
         _, sender, w = corrected
-        answered = batch.receiver_answer(receiver, key, choices, v, bytes(1032), bytes(2048 * blocks))
+        lengths = batch.answer_lengths(width, blocks)
+        answered = batch.receiver_answer(receiver, key, choices, v, *map(bytes, lengths[2:]))
         _, receiver, message, _ = answered
-        verified = batch.sender_verify(sender, key, w, delta, message, bytes(4096 * blocks))
+        verified = batch.sender_verify(sender, key, w, delta, message, bytes(sizes.sender_pads_length(width, blocks)))
         sender = verified[1]
         out += numbers(number, blocks) + key.to_bytes(8, "little")
         for answer, after, *written in (started, corrected, answered, verified):
@@ -531,12 +539,13 @@ def setup_cases():
     rng = random.Random(128)
     out = b""
     for width in setup.WIDTHS:
-        roots, pads, delta = rng.randbytes(setup.roots_length(width)), rng.randbytes(8192), rng.randbytes(16)
-        _, message = setup.receiver_setup(width, roots, pads, bytes(8192))
+        roots, pads = rng.randbytes(sizes.roots_length(width)), rng.randbytes(sizes.receiver_base_pads_length(width))
+        delta, siblings = rng.randbytes(sizes.delta_length(width)), bytes(sizes.siblings_length(width))
+        _, message = setup.receiver_setup(width, roots, pads, bytes(sizes.setup_message_length(width)))
         mine = setup.sender_pads(width, delta, pads)
-        out += roots + pads + message + delta + mine + setup.sender_setup(width, delta, mine, message, bytes(4096))[1]
-        given = rng.randbytes(16), rng.randbytes(4096), rng.randbytes(8192)
-        out += b"".join(given) + setup.sender_setup(width, *given, bytes(4096))[1]
+        out += roots + pads + message + delta + mine + setup.sender_setup(width, delta, mine, message, siblings)[1]
+        given = [rng.randbytes(length) for length in setup.sender_setup_lengths(width)[:3]]
+        out += b"".join(given) + setup.sender_setup(width, *given, siblings)[1]
     return out
 
 
@@ -545,10 +554,11 @@ class Demo:
 
     def __init__(self):
         self.text = "answers: 0 done, 2 wrong stage, 6 check failed; stage: 0 ready, 2 closed\n"
-        self.roots, self.delta, pairs = derived(1, 0, 512), derived(1, 1, 16), derived(1, 2, 8192)
-        first, message = setup.receiver_setup(8, self.roots, pairs, bytes(8192))
+        self.roots, self.delta = derived(1, 0, sizes.roots_length(8)), derived(1, 1, sizes.delta_length(8))
+        pairs = derived(1, 2, sizes.receiver_base_pads_length(8))
+        first, message = setup.receiver_setup(8, self.roots, pairs, bytes(sizes.setup_message_length(8)))
         mine = setup.sender_pads(8, self.delta, pairs)
-        second, self.siblings = setup.sender_setup(8, self.delta, mine, message, bytes(4096))
+        second, self.siblings = setup.sender_setup(8, self.delta, mine, message, bytes(sizes.siblings_length(8)))
         self.text += "setup, width 8: answers %d %d\n" % (first, second)
         nothing = batch.Record(0, 0, 0, 0)
         self.receiver, self.sender = batch.open_session(nothing, 8)[1], batch.open_session(nothing, 8)[1]
@@ -560,13 +570,16 @@ class Demo:
         start, opened, choices, v, correction = batch.receiver_start(self.receiver, number, blocks, self.roots, *given)
         correction = damaged([(CORRECTION, 5, flip)], CORRECTION, correction)
         correct, corrected, w = batch.sender_correct(self.sender, number, blocks, self.siblings, self.delta, correction, bytes(len(v)))
-        answer, self.receiver, message, mine = batch.receiver_answer(opened, key, choices, v, bytes(1032), bytes(2048 * blocks))
-        verify, self.sender, theirs = batch.sender_verify(corrected, key, w, self.delta, message, bytes(4096 * blocks))
+        _, _, *given = map(bytes, batch.answer_lengths(8, blocks))
+        answer, self.receiver, message, mine = batch.receiver_answer(opened, key, choices, v, *given)
+        both = bytes(sizes.sender_pads_length(8, blocks))
+        verify, self.sender, theirs = batch.sender_verify(corrected, key, w, self.delta, message, both)
         mine_each, theirs_each = batch.parts(mine, 32), batch.parts(theirs, 32)
-        agree = sum(mine_each[j] == theirs_each[2 * j + (choices[j // 8] >> j % 8 & 1)] for j in range(64 * blocks))
+        transfers = sizes.transfers(8, blocks)
+        agree = sum(mine_each[j] == theirs_each[2 * j + (choices[j // 8] >> j % 8 & 1)] for j in range(transfers))
         self.text += "batch %d\n" % number
         self.text += side("  receiver", start, opened, answer, self.receiver) + side("   sender", correct, corrected, verify, self.sender)
-        self.text += "\n  pads that agree: %d of %d" % (agree, 64 * blocks)
+        self.text += "\n  pads that agree: %d of %d" % (agree, transfers)
         self.text += "; the sender's were written" if any(theirs) else "; none of the sender's was written"
         self.text += "; digests %s %s\n" % tuple(hashlib.sha256(pads).hexdigest()[:16] for pads in (mine, theirs))
         return [start, correct, answer, verify], agree
@@ -574,7 +587,7 @@ class Demo:
 
 def side(name, start, opened, end, after):
     """One side's account of a batch. Its transfers count where the step that ends it was done."""
-    transfers = 64 * opened.blocks if end == batch.DONE else 0
+    transfers = sizes.transfers(opened.width, opened.blocks) if end == batch.DONE else 0
     text = "%s: last %d, blocks %d, transfers %d, answers %d %d, stage %d"
     return text % (name, after.last, opened.blocks, transfers, start, end, after.stage)
 
@@ -583,7 +596,7 @@ def demo():
     """Three honest batches; one whose correction has a bit flipped, in a tree whose part of delta isn't 0; and one on the closed session."""
     d = Demo()
     for number, blocks in ((1, 1), (2, 15), (3, 4)):
-        assert d.batch(number, blocks) == (ACCEPTED, 64 * blocks)
+        assert d.batch(number, blocks) == (ACCEPTED, sizes.transfers(8, blocks))
     d.text += "the receiver cheats: one bit of its correction is flipped\n"
     assert d.batch(4, 2, flip=1) == (REFUSED, 0)
     assert d.sender == batch.Record(8, 4, 2, batch.CLOSED)

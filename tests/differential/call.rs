@@ -1,7 +1,7 @@
 //! A call of one of the seven steps, and what the twin says of it.
 
 use crate::library::Record;
-use crate::twin::{batch, setup};
+use crate::twin::{batch, setup, sizes};
 use Step::*;
 
 #[derive(Clone, Copy, PartialEq)]
@@ -79,15 +79,16 @@ impl Step {
 
     /// The lengths of all its ranges. Numbers that no step allows are brought near those allowed, so that any may be given.
     pub fn lengths(self, width: u32, blocks: u32) -> Vec<usize> {
-        let (width, blocks) = (width.clamp(1, 128) as usize, blocks.min(17) as usize);
+        let (width, blocks) = (width.max(1) as usize, blocks.min(17) as usize);
+        let width = width.min(sizes::columns(width)); // so that there is a tree
         match self {
-            ReceiverSetup => setup::receiver_setup_lengths(width),
-            SenderSetup => setup::sender_setup_lengths(),
+            ReceiverSetup => setup::receiver_setup_lengths(width).to_vec(),
+            SenderSetup => setup::sender_setup_lengths(width).to_vec(),
             Open => vec![],
-            ReceiverStart => batch::start_lengths(width, blocks),
-            SenderCorrect => batch::correct_lengths(width, blocks),
-            ReceiverAnswer => batch::answer_lengths(blocks),
-            SenderVerify => batch::verify_lengths(blocks),
+            ReceiverStart => batch::start_lengths(width, blocks).to_vec(),
+            SenderCorrect => batch::correct_lengths(width, blocks).to_vec(),
+            ReceiverAnswer => batch::answer_lengths(width, blocks).to_vec(),
+            SenderVerify => batch::verify_lengths(width, blocks).to_vec(),
         }
     }
 }

@@ -8,8 +8,8 @@ use crate::library::Record;
 use crate::pair::{side_of, Pair, RECEIVER, SENDER};
 use crate::random::Random;
 use crate::twin::batch::{CHECK, CLOSED, READY};
-use crate::twin::gf64;
-use crate::twin::setup::{delta_of, sender_pads, xor_into, DONE, TRANSFERS};
+use crate::twin::setup::{delta_of, sender_pads, xor_into, DONE};
+use crate::twin::{gf64, sizes};
 
 /// What is altered in a batch.
 enum Damage {
@@ -68,8 +68,9 @@ impl Session<'_> {
         let [roots, base_pads, _] = call.ranges.as_slice() else {
             unreachable!()
         };
-        let delta = self.random().bytes(16);
-        let pads = sender_pads(self.pair.width as usize, &delta, base_pads);
+        let width = self.pair.width as usize;
+        let delta = self.random().bytes(sizes::delta_length(width));
+        let pads = sender_pads(width, &delta, base_pads);
         self.pair.sides[RECEIVER].held.insert("roots", roots.clone());
         self.pair.sides[SENDER].held.extend([("delta", delta), ("base_pads", pads)]);
         self.wrong(Step::ReceiverSetup)?;
@@ -161,13 +162,13 @@ impl Session<'_> {
             }
             3 => Damage::Key,
             4 | 5 => {
-                let tree = 1 + random.below(TRANSFERS / width - 1);
+                let tree = 1 + random.below(sizes::trees_of(width) - 1);
                 let d = delta_of(width, &self.pair.sides[SENDER].held["delta"], tree);
                 let guess = random.pick(&[d, d, d ^ 1, d ^ 1 << (width - 1), 0]);
                 Damage::Guess {
                     tree,
                     guess,
-                    error: random.bytes(128),
+                    error: random.bytes(sizes::column_length(width, 15)),
                 }
             }
             _ => Damage::None,
@@ -181,11 +182,11 @@ impl Damage {
             Damage::Bit(step, range) if *step == call.step => random.flip(&mut call.ranges[*range]),
             Damage::Key if call.step == Step::SenderVerify => call.key ^= 1 << random.below(64),
             Damage::Guess { tree, error, .. } if call.step == Step::SenderCorrect => {
-                let length = call.ranges[2].len() / (TRANSFERS / width - 1);
+                let length = call.ranges[2].len() / (sizes::trees_of(width) - 1);
                 xor_into(&mut call.ranges[2][length * (tree - 1)..length * tree], &error[..length]);
             }
             Damage::Guess { tree, guess, error } if call.step == Step::SenderVerify => {
-                let length = call.ranges[0].len() / TRANSFERS;
+                let length = call.ranges[0].len() / sizes::columns(width);
                 let fold = gf64::fold(call.key, &gf64::words(&error[..length])).to_le_bytes();
                 for c in (0..width).filter(|b| guess >> b & 1 == 1).map(|b| tree * width + b) {
                     xor_into(&mut call.ranges[2][8 * (1 + c)..8 * (2 + c)], &fold);

@@ -5,8 +5,7 @@ use crate::compare::Comparison;
 use crate::draw;
 use crate::library::Record;
 use crate::random::Random;
-use crate::twin::setup::TRANSFERS;
-use crate::twin::{batch, gf64};
+use crate::twin::{batch, gf64, sizes};
 
 pub fn play(comparison: &mut Comparison) -> Option<()> {
     let random = &mut comparison.random;
@@ -41,7 +40,7 @@ pub fn sweep(comparison: &mut Comparison) -> Option<()> {
     let mut call = drawn(random, Step::SenderVerify, record);
     fit(&mut call);
     comparison.call(call.clone())?;
-    for fold in 0..1 + TRANSFERS {
+    for fold in 0..1 + sizes::columns(record.width as usize) {
         let mut altered = call.clone();
         comparison.random.flip(&mut altered.ranges[2][8 * fold..8 * fold + 8]);
         comparison.call(altered)?;
@@ -77,7 +76,7 @@ fn fit(call: &mut Call) {
     let [table, delta, message, _] = call.ranges.as_mut_slice() else {
         return;
     };
-    let folds = batch::accepted_folds(call.key, table, delta, gf64::words(message)[0]);
+    let folds = batch::accepted_folds(call.record.width as usize, call.key, table, delta, gf64::words(message)[0]);
     message.truncate(8);
     message.extend(folds.into_iter().flat_map(u64::to_le_bytes));
 }

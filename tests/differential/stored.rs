@@ -5,8 +5,8 @@ use crate::library::Record;
 use crate::pair::{side_of, Pair, RECEIVER, SENDER};
 use crate::random::Random;
 use crate::twin::batch::open_session;
-use crate::twin::setup::{receiver_setup, sender_pads, sender_setup, DONE, WIDTHS};
-use crate::twin::{chacha20, gf64, sha256};
+use crate::twin::setup::{receiver_setup, receiver_setup_lengths, sender_pads, sender_setup, sender_setup_lengths, DONE, WIDTHS};
+use crate::twin::{chacha20, gf64, sha256, sizes};
 
 pub fn published() {
     let hex = |bytes: &[u8]| bytes.iter().map(|x| format!("{x:02x}")).collect::<String>();
@@ -56,19 +56,23 @@ impl Stored {
 pub fn setups() {
     let mut file = Stored::new("tests/host/setup.bin");
     for width in WIDTHS {
-        let [roots, pads, message, delta, mine, siblings] = [4096 / width as usize, 8192, 8192, 16, 4096, 4096].map(|n| file.bytes(n));
+        let k = width as usize;
+        let [roots, pads, message] = receiver_setup_lengths(k).map(|n| file.bytes(n));
         assert!(
-            receiver_setup(width, [&roots, &pads, &[0; 8192]]) == (DONE, vec![message.clone()]),
+            receiver_setup(width, [&roots, &pads, &vec![0; message.len()]]) == (DONE, vec![message.clone()]),
             "receiver's setup, width {width}"
         );
-        assert!(sender_pads(width as usize, &delta, &pads) == mine, "sender's pads, width {width}");
+        let lengths = [sizes::delta_length(k), sizes::sender_base_pads_length(k), sizes::siblings_length(k)];
+        let [delta, mine, siblings] = lengths.map(|n| file.bytes(n));
+        let before = vec![0; siblings.len()];
+        assert!(sender_pads(k, &delta, &pads) == mine, "sender's pads, width {width}");
         assert!(
-            sender_setup(width, [&delta, &mine, &message, &[0; 4096]]) == (DONE, vec![siblings]),
+            sender_setup(width, [&delta, &mine, &message, &before]) == (DONE, vec![siblings]),
             "sender's setup, width {width}"
         );
-        let [delta, mine, message, siblings] = [16, 4096, 8192, 4096].map(|n| file.bytes(n));
+        let [delta, mine, message, siblings] = sender_setup_lengths(k).map(|n| file.bytes(n));
         assert!(
-            sender_setup(width, [&delta, &mine, &message, &[0; 4096]]) == (DONE, vec![siblings]),
+            sender_setup(width, [&delta, &mine, &message, &before]) == (DONE, vec![siblings]),
             "any setup, width {width}"
         );
     }
@@ -83,7 +87,9 @@ pub fn sessions() {
 
 fn session(width: u32, mut file: Stored) {
     let mut pair = Pair::new(width, [open_session(Record::default(), width).1; 2]);
-    let [roots, siblings, delta] = [4096 / width as usize, 4096, 16].map(|n| file.bytes(n));
+    let k = width as usize;
+    let lengths = [sizes::roots_length(k), sizes::siblings_length(k), sizes::delta_length(k)];
+    let [roots, siblings, delta] = lengths.map(|n| file.bytes(n));
     pair.sides[RECEIVER].held.insert("roots", roots);
     pair.sides[SENDER].held.extend([("siblings", siblings), ("delta", delta)]);
     for _ in 0..2 {

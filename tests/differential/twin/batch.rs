@@ -2,8 +2,8 @@
 //!
 //! The names are those of setup.rs. Of the paper's letters, u_0 is the choices, V the receiver's table and W the sender's.
 
-use super::setup::{bit, children, delta_of, node_at, path, xor_into, Node, DONE, LENGTH, NODE, TRANSFERS, WIDTH, WIDTHS};
-use super::{chacha20, gf64, sha256};
+use super::setup::{bit, children, delta_of, node_at, path, xor_into, Node, DONE, LENGTH, NODE, WIDTH, WIDTHS};
+use super::{chacha20, gf64, sha256, sizes};
 use crate::library::Record;
 
 pub const STAGE: u32 = 2;
@@ -14,10 +14,6 @@ pub const CHECK: u32 = 6;
 pub const READY: u32 = 0;
 pub const OPEN: u32 = 1;
 pub const CLOSED: u32 = 2;
-
-pub fn column_length(blocks: usize) -> usize {
-    8 * (blocks + 1)
-}
 
 // Leaves and their streams. A tree is a list of pairs: a node's or leaf's number in its depth, and the node or the leaf's stream.
 
@@ -83,7 +79,7 @@ fn sender_column(tree: &Streams, length: usize, d: usize, b: usize) -> Vec<u8> {
 /// The choices, the receiver's table and the correction.
 fn receiver_batch(width: usize, roots: &[u8], batch: u32, length: usize) -> Vec<Vec<u8>> {
     let (mut choices, mut table, mut correction) = (vec![], vec![], vec![]);
-    for i in 0..TRANSFERS / width {
+    for i in 0..sizes::trees_of(width) {
         let tree = streams(&receiver_leaves(width, node_at(roots, i)), batch, length);
         let mut total = sum(&tree, length, |_| true);
         if i == 0 {
@@ -99,7 +95,7 @@ fn receiver_batch(width: usize, roots: &[u8], batch: u32, length: usize) -> Vec<
 
 fn sender_table(width: usize, siblings: &[u8], delta: &[u8], batch: u32, length: usize, correction: &[u8]) -> Vec<u8> {
     let mut out = vec![];
-    for i in 0..TRANSFERS / width {
+    for i in 0..sizes::trees_of(width) {
         let d = delta_of(width, delta, i);
         let tree = streams(&sender_leaves(width, d, &siblings[NODE * width * i..]), batch, length);
         for b in 0..width {
@@ -113,31 +109,43 @@ fn sender_table(width: usize, siblings: &[u8], delta: &[u8], batch: u32, length:
     out
 }
 
-/// Bit j of each of the 128 columns.
-fn row(table: &[u8], length: usize, j: usize) -> u128 {
-    (0..TRANSFERS).map(|c| (bit(table, 8 * length * c + j) as u128) << c).sum()
+/// Bit j of each column.
+fn row(width: usize, table: &[u8], length: usize, j: usize) -> Vec<u8> {
+    let mut out = vec![0; sizes::delta_length(width)];
+    for c in 0..sizes::columns(width) {
+        out[c / 8] |= (bit(table, 8 * length * c + j) as u8) << (c % 8);
+    }
+    out
 }
 
-fn pad(batch: u32, j: usize, value: u128) -> [u8; 32] {
+/// The row values that get pads.
+fn rows(width: usize, blocks: usize, table: &[u8]) -> Vec<Vec<u8>> {
+    let length = sizes::column_length(width, blocks);
+    (0..sizes::transfers(width, blocks)).map(|j| row(width, table, length, j)).collect()
+}
+
+fn pad(batch: u32, j: usize, value: &[u8]) -> [u8; 32] {
     let mut hashed = b"PADS".to_vec();
     hashed.extend(u64::from(batch).to_le_bytes());
     hashed.extend((j as u32).to_le_bytes());
-    hashed.extend(value.to_le_bytes());
+    hashed.extend(value);
     sha256::digest(&hashed)
 }
 
-fn receiver_pads(batch: u32, blocks: usize, table: &[u8]) -> Vec<u8> {
-    (0..64 * blocks)
-        .flat_map(|j| pad(batch, j, row(table, column_length(blocks), j)))
-        .collect()
+fn receiver_pads(width: usize, batch: u32, blocks: usize, table: &[u8]) -> Vec<u8> {
+    let rows = rows(width, blocks, table);
+    rows.iter().enumerate().flat_map(|(j, value)| pad(batch, j, value)).collect()
 }
 
 /// Pad 0 before pad 1 in each row.
-fn sender_pads(batch: u32, blocks: usize, table: &[u8], delta: &[u8]) -> Vec<u8> {
-    let d = u128::from_le_bytes(delta.try_into().unwrap());
-    let rows = (0..64 * blocks).map(|j| (j, row(table, column_length(blocks), j)));
-    rows.flat_map(|(j, value)| [pad(batch, j, value), pad(batch, j, value ^ d)].concat())
-        .collect()
+fn sender_pads(width: usize, batch: u32, blocks: usize, table: &[u8], delta: &[u8]) -> Vec<u8> {
+    let mut out = vec![];
+    for (j, mut value) in rows(width, blocks, table).into_iter().enumerate() {
+        out.extend(pad(batch, j, &value));
+        xor_into(&mut value, delta);
+        out.extend(pad(batch, j, &value));
+    }
+    out
 }
 
 fn folds(key: u64, table: &[u8], length: usize) -> Vec<u64> {
@@ -152,42 +160,59 @@ fn check_message(key: u64, choices: &[u8], table: &[u8]) -> Vec<u8> {
 }
 
 /// The folds that the check asks for in the columns: in each the fold of W, plus the sent choice fold where delta has the bit.
-pub fn accepted_folds(key: u64, table: &[u8], delta: &[u8], choice_fold: u64) -> Vec<u64> {
-    let mine = folds(key, table, table.len() / TRANSFERS);
+pub fn accepted_folds(width: usize, key: u64, table: &[u8], delta: &[u8], choice_fold: u64) -> Vec<u64> {
+    let mine = folds(key, table, table.len() / sizes::columns(width));
     mine.iter()
         .enumerate()
         .map(|(c, fold)| fold ^ if bit(delta, c) == 1 { choice_fold } else { 0 })
         .collect()
 }
 
-fn accepts(key: u64, table: &[u8], delta: &[u8], message: &[u8]) -> bool {
+fn accepts(width: usize, key: u64, table: &[u8], delta: &[u8], message: &[u8]) -> bool {
     let sent = gf64::words(message);
-    sent[1..] == accepted_folds(key, table, delta, sent[0])
+    sent[1..] == accepted_folds(width, key, table, delta, sent[0])
 }
 
 // The lengths that the ranges of a step must have, in the order of its parameters.
 
 /// Roots, choices, table, correction.
-pub fn start_lengths(width: usize, blocks: usize) -> Vec<usize> {
-    let (trees, length) = (TRANSFERS / width, column_length(blocks));
-    vec![NODE * trees, length, TRANSFERS * length, (trees - 1) * length]
+pub fn start_lengths(width: usize, blocks: usize) -> [usize; 4] {
+    [
+        sizes::roots_length(width),
+        sizes::column_length(width, blocks),
+        sizes::table_length(width, blocks),
+        sizes::correction_length(width, blocks),
+    ]
 }
 
 /// Siblings, delta, correction, table.
-pub fn correct_lengths(width: usize, blocks: usize) -> Vec<usize> {
-    let (trees, length) = (TRANSFERS / width, column_length(blocks));
-    vec![NODE * TRANSFERS, TRANSFERS / 8, (trees - 1) * length, TRANSFERS * length]
+pub fn correct_lengths(width: usize, blocks: usize) -> [usize; 4] {
+    [
+        sizes::siblings_length(width),
+        sizes::delta_length(width),
+        sizes::correction_length(width, blocks),
+        sizes::table_length(width, blocks),
+    ]
 }
 
 /// Choices, table, message, pads.
-pub fn answer_lengths(blocks: usize) -> Vec<usize> {
-    let length = column_length(blocks);
-    vec![length, TRANSFERS * length, 8 * (1 + TRANSFERS), 2048 * blocks]
+pub fn answer_lengths(width: usize, blocks: usize) -> [usize; 4] {
+    [
+        sizes::column_length(width, blocks),
+        sizes::table_length(width, blocks),
+        sizes::check_message_length(width),
+        sizes::receiver_pads_length(width, blocks),
+    ]
 }
 
 /// Table, delta, message, pads.
-pub fn verify_lengths(blocks: usize) -> Vec<usize> {
-    vec![TRANSFERS * column_length(blocks), TRANSFERS / 8, 8 * (1 + TRANSFERS), 4096 * blocks]
+pub fn verify_lengths(width: usize, blocks: usize) -> [usize; 4] {
+    [
+        sizes::table_length(width, blocks),
+        sizes::delta_length(width),
+        sizes::check_message_length(width),
+        sizes::sender_pads_length(width, blocks),
+    ]
 }
 
 // The steps.
@@ -210,14 +235,14 @@ fn refusal(record: Record, stage: u32, batch_right: bool, blocks: u32, lengths_r
 }
 
 /// The answer of a step that opens a batch.
-fn opening(record: Record, batch: u32, blocks: u32, lengths: impl Fn(usize, usize) -> Vec<usize>, given: [&[u8]; 4]) -> u32 {
-    let right = || given.map(<[u8]>::len).to_vec() == lengths(record.width as usize, blocks as usize);
+fn opening(record: Record, batch: u32, blocks: u32, lengths: impl Fn(usize, usize) -> [usize; 4], given: [&[u8]; 4]) -> u32 {
+    let right = || given.map(<[u8]>::len) == lengths(record.width as usize, blocks as usize);
     refusal(record, READY, batch != 0 && batch > record.last, blocks, right)
 }
 
 /// The answer of a step that ends a batch, but for the check.
-fn ending(record: Record, lengths: impl Fn(usize) -> Vec<usize>, given: [&[u8]; 4]) -> u32 {
-    let right = || given.map(<[u8]>::len).to_vec() == lengths(record.blocks as usize);
+fn ending(record: Record, lengths: impl Fn(usize, usize) -> [usize; 4], given: [&[u8]; 4]) -> u32 {
+    let right = || given.map(<[u8]>::len) == lengths(record.width as usize, record.blocks as usize);
     refusal(record, OPEN, record.last != 0, record.blocks, right)
 }
 
@@ -264,7 +289,8 @@ pub fn receiver_start(record: Record, batch: u32, blocks: u32, ranges: [&[u8]; 4
     if answer != DONE {
         return (answer, record, vec![]);
     }
-    let written = receiver_batch(record.width as usize, ranges[0], batch, column_length(blocks as usize));
+    let width = record.width as usize;
+    let written = receiver_batch(width, ranges[0], batch, sizes::column_length(width, blocks as usize));
     (DONE, opened(record, batch, blocks), written)
 }
 
@@ -273,9 +299,9 @@ pub fn sender_correct(record: Record, batch: u32, blocks: u32, ranges: [&[u8]; 4
     if answer != DONE {
         return (answer, record, vec![]);
     }
-    let [siblings, delta, correction, _] = ranges;
-    let length = column_length(blocks as usize);
-    let written = sender_table(record.width as usize, siblings, delta, batch, length, correction);
+    let (width, [siblings, delta, correction, _]) = (record.width as usize, ranges);
+    let length = sizes::column_length(width, blocks as usize);
+    let written = sender_table(width, siblings, delta, batch, length, correction);
     (DONE, opened(record, batch, blocks), vec![written])
 }
 
@@ -285,7 +311,7 @@ pub fn receiver_answer(record: Record, key: u64, ranges: [&[u8]; 4]) -> Given {
         return (answer, record, vec![]);
     }
     let [choices, table, ..] = ranges;
-    let pads = receiver_pads(record.last, record.blocks as usize, table);
+    let pads = receiver_pads(record.width as usize, record.last, record.blocks as usize, table);
     (DONE, ended(record), vec![check_message(key, choices, table), pads])
 }
 
@@ -294,10 +320,10 @@ pub fn sender_verify(record: Record, key: u64, ranges: [&[u8]; 4]) -> Given {
     if answer != DONE {
         return (answer, record, vec![]);
     }
-    let [table, delta, message, _] = ranges;
-    if !accepts(key, table, delta, message) {
+    let (width, [table, delta, message, _]) = (record.width as usize, ranges);
+    if !accepts(width, key, table, delta, message) {
         return (CHECK, Record { stage: CLOSED, ..record }, vec![]);
     }
-    let pads = sender_pads(record.last, record.blocks as usize, table, delta);
+    let pads = sender_pads(width, record.last, record.blocks as usize, table, delta);
     (DONE, ended(record), vec![pads])
 }

@@ -6,3 +6,4 @@ pub mod chacha20;
 pub mod gf64;
 pub mod setup;
 pub mod sha256;
+pub mod sizes;

@@ -2,10 +2,9 @@
 //!
 //! The paper's chooser is the receiver here, its keeper the sender, D is delta and the kept table is the siblings.
 
-use super::chacha20;
+use super::{chacha20, sizes};
 
 pub const WIDTHS: [u32; 4] = [1, 2, 4, 8];
-pub const TRANSFERS: usize = 128;
 pub const NODE: usize = 32;
 pub type Node = [u8; NODE];
 
@@ -57,13 +56,22 @@ pub fn path(width: usize, d: usize) -> Vec<usize> {
 // The lengths that the ranges of a step must have, in the order of its parameters.
 
 /// Roots, base pads, message.
-pub fn receiver_setup_lengths(width: usize) -> Vec<usize> {
-    vec![NODE * (TRANSFERS / width), 2 * NODE * TRANSFERS, 2 * NODE * TRANSFERS]
+pub fn receiver_setup_lengths(width: usize) -> [usize; 3] {
+    [
+        sizes::roots_length(width),
+        sizes::receiver_base_pads_length(width),
+        sizes::setup_message_length(width),
+    ]
 }
 
 /// Delta, base pads, message, siblings.
-pub fn sender_setup_lengths() -> Vec<usize> {
-    vec![TRANSFERS / 8, NODE * TRANSFERS, 2 * NODE * TRANSFERS, NODE * TRANSFERS]
+pub fn sender_setup_lengths(width: usize) -> [usize; 4] {
+    [
+        sizes::delta_length(width),
+        sizes::sender_base_pads_length(width),
+        sizes::setup_message_length(width),
+        sizes::siblings_length(width),
+    ]
 }
 
 // The steps.
@@ -73,12 +81,12 @@ pub fn receiver_setup(width: u32, ranges: [&[u8]; 3]) -> (u32, Vec<Vec<u8>>) {
         return (WIDTH, vec![]);
     }
     let width = width as usize;
-    if ranges.map(<[u8]>::len).to_vec() != receiver_setup_lengths(width) {
+    if ranges.map(<[u8]>::len) != receiver_setup_lengths(width) {
         return (LENGTH, vec![]);
     }
     let [roots, base_pads, _] = ranges;
     let mut out = vec![];
-    for i in 0..TRANSFERS / width {
+    for i in 0..sizes::trees_of(width) {
         let depths = tree(node_at(roots, i), width);
         for level in 0..width {
             for side in [0, 1] {
@@ -126,10 +134,11 @@ pub fn sender_setup(width: u32, ranges: [&[u8]; 4]) -> (u32, Vec<Vec<u8>>) {
     if !WIDTHS.contains(&width) {
         return (WIDTH, vec![]);
     }
-    if ranges.map(<[u8]>::len).to_vec() != sender_setup_lengths() {
+    let width = width as usize;
+    if ranges.map(<[u8]>::len) != sender_setup_lengths(width) {
         return (LENGTH, vec![]);
     }
-    let (width, [delta, base_pads, message, _]) = (width as usize, ranges);
+    let [delta, base_pads, message, _] = ranges;
     let trees = message.chunks(2 * NODE * width).zip(base_pads.chunks(NODE * width)).enumerate();
     let out = trees.flat_map(|(i, (totals, pads))| tree_siblings(width, delta_of(width, delta, i), totals, pads));
     (DONE, vec![out.collect()])
@@ -138,7 +147,7 @@ pub fn sender_setup(width: u32, ranges: [&[u8]; 4]) -> (u32, Vec<Vec<u8>>) {
 /// What an honest setup has: of each base transfer's two pads the one numbered 1 minus the path bit.
 pub fn sender_pads(width: usize, delta: &[u8], base_pads: &[u8]) -> Vec<u8> {
     let mut out = vec![];
-    for i in 0..TRANSFERS / width {
+    for i in 0..sizes::trees_of(width) {
         for (level, bit) in path(width, delta_of(width, delta, i)).into_iter().enumerate() {
             out.extend(node_at(base_pads, 2 * (i * width + level) + 1 - bit));
         }

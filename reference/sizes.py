@@ -1,0 +1,84 @@
+"""The columns, the trees, and the length of every byte range that a step is lent: paper 01, 'Words and layouts' and 'Steps and their
+turning away'.
+
+Each is a function of the width, and in a batch of the blocks, also where it is the same for every width. A size stands nowhere else.
+"""
+
+
+def columns(width):
+    """A table has 128 columns, each with a base transfer of its own."""
+    return 128
+
+
+def trees_of(width):
+    """There are n = 128/k trees."""
+    return columns(width) // width
+
+
+# The setups.
+
+def delta_length(width):
+    """D: 16, a bit for each column. A row value is ordered as D is, and as long."""
+    return columns(width) // 8
+
+
+def roots_length(width):
+    """Roots: 32 × n."""
+    return 32 * trees_of(width)
+
+
+def receiver_base_pads_length(width):
+    """The chooser's base pads: 8,192, two for each base transfer."""
+    return 64 * columns(width)
+
+
+def sender_base_pads_length(width):
+    """The keeper's base pads: 4,096, one for each base transfer."""
+    return 32 * columns(width)
+
+
+def setup_message_length(width):
+    """The setup message: 8,192, two masked totals for each base transfer."""
+    return 64 * columns(width)
+
+
+def siblings_length(width):
+    """The kept table: 4,096, a node for each base transfer."""
+    return 32 * columns(width)
+
+
+# A batch of P blocks.
+
+def column_length(width, blocks):
+    """A column, as u_0 is one: L = 8 × (P+1)."""
+    return 8 * (blocks + 1)
+
+
+def table_length(width, blocks):
+    """V and W: 128 × L."""
+    return columns(width) * column_length(width, blocks)
+
+
+def correction_length(width, blocks):
+    """The correction: (n−1) × L."""
+    return (trees_of(width) - 1) * column_length(width, blocks)
+
+
+def check_message_length(width):
+    """The check message: 1,032, the fold of u_0, then of each column."""
+    return 8 * (1 + columns(width))
+
+
+def transfers(width, blocks):
+    """P blocks of 64 transfers each."""
+    return 64 * blocks
+
+
+def receiver_pads_length(width, blocks):
+    """The chooser's pads: 2,048 × P, one for each transfer."""
+    return 32 * transfers(width, blocks)
+
+
+def sender_pads_length(width, blocks):
+    """The keeper's pads: 4,096 × P, two for each transfer."""
+    return 64 * transfers(width, blocks)
