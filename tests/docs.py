@@ -1,7 +1,7 @@
 #!/usr/bin/env python3
 """The documents say of files what stands there: a block after a line that names a file stands word for word in that file, a link leads to
-a file, a function written crate::name is in that crate, and so is a definition written crate: File.name; and README's sizes are those that
-tests/sizes.py counts."""
+a file, a function written crate::name is in that crate, and so is a definition written crate: File.name, and a must-fail edit written
+crate/edit; and README's sizes are those that tests/sizes.py counts."""
 
 import pathlib
 import re
@@ -26,9 +26,17 @@ def defined(crate, file, name):
     return any(re.search(rf"(?<![\w-]){re.escape(name)}(?![\w-])", text) for text in texts)
 
 
+def edits(text):
+    """The must-fail edits that a text names. A path from the root or from crates/ is none, as bench/run, though bench is a crate too."""
+    for crate, name in re.findall(r"`(\w+)/([\w-]+)`", text):
+        paths = [ROOT / crate / name, ROOT / "crates" / crate / name]
+        if (ROOT / "crates" / crate).is_dir() and not any(path.exists() for path in paths):
+            yield crate, name
+
+
 known = set(functions())
 failures = []
-seen = dict(blocks=0, links=0, functions=0, definitions=0, sizes=0)
+seen = dict(blocks=0, links=0, edits=0, functions=0, definitions=0, sizes=0)
 
 
 def expect(kind, page, what, holds):
@@ -54,6 +62,8 @@ for page in [ROOT / "README.md", ROOT / "CONTRIBUTING.md", *sorted((ROOT / "docs
         expect("blocks", page, f"a block is not in {name}", block in (ROOT / name).read_text())
     for target in re.findall(r"\]\(([^)#]+)\)", text):
         expect("links", page, f"no file {target}", "://" in target or (page.parent / target).exists())
+    for crate, name in edits(text):
+        expect("edits", page, f"no edit {crate}/{name}", (ROOT / f"crates/{crate}/must-fail/{name}.edit").exists())
     if page.name == "SCOPE.md":
         for name in re.findall(r"`(\w+(?:::\w+)+)`", text):
             expect("functions", page, f"no function {name}", name in known)

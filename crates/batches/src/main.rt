@@ -6,6 +6,7 @@ use libc::STDIN_FILENO;
 ghost use mathlib.Core.Path.{_≡_};
 ghost use Prim.Native.Nat.{_+_, _≤_};
 ghost use lib.ListN.{length};
+ghost use Rattle.sizes.specs.Sizes.{siblingsLength};
 
 // Two sessions, one on each side.
 struct Sessions {
@@ -217,14 +218,15 @@ fn batch_receiver(
 }
 
 // The siblings that an honest setup leaves, where every base pad is 0. The `ensures` gives their length.
-fn siblings_of(width: u32, roots: &[u8], delta: &[u8]) -> [u8; 4096]
-    ensures { λ r. ⌜ 4096 ≡ length r ⌝ }
+fn siblings_of(width: u32, roots: &[u8], delta: &[u8]) -> [u8; sizes::SIBLINGS_LENGTH]
+    ensures { λ r. ⌜ siblingsLength ≡ length r ⌝ }
 {
-    let base_pads = [0u8; 8192];
-    let mut message = [0u8; 8192];
+    let base_pads = [0u8; sizes::RECEIVER_BASE_PADS_LENGTH];
+    let mut message = [0u8; sizes::SETUP_MESSAGE_LENGTH];
     setup::receiver_setup(width, roots, &base_pads, &mut message);
-    let mut siblings = [0u8; 4096];
-    setup::sender_setup(width, delta, &base_pads[0..4096], &message, &mut siblings);
+    let mut siblings = [0u8; sizes::SIBLINGS_LENGTH];
+    let mine = &base_pads[0..sizes::SENDER_BASE_PADS_LENGTH];
+    setup::sender_setup(width, delta, mine, &message, &mut siblings);
     siblings
 }
 
@@ -317,7 +319,7 @@ fn batch(both: Sessions, p: &[u8]) -> Sessions {
     let mut all_message = cases::derived(seed, 5);
     let roots = &all_roots[0..roots_len];
     let correction = &mut all_correction[0..correction_len];
-    let message = &mut all_message[0..1032];
+    let message = &mut all_message[0..sizes::CHECK_MESSAGE_LENGTH];
     let receiver = batch_receiver(both.receiver, p, roots, correction, message);
     let sender = batch_sender(both.sender, p, roots, correction, message);
     Sessions { receiver, sender }
@@ -375,12 +377,7 @@ fn case(both: Sessions, kind: u8, p: &[u8]) -> Sessions {
 
 // Two sessions whose records hold nothing.
 fn nothing() -> Sessions {
-    let r = rules::Record {
-        width: 0,
-        last: 0,
-        blocks: 0,
-        stage: 0,
-    };
+    let r = rules::new_record(0);
     Sessions {
         receiver: r,
         sender: r,

@@ -3,11 +3,11 @@ ghost use mathlib.Core.Path.{_≡_};
 ghost use Rattle.sha256.specs.Sha.{digestOf};
 ghost use Rattle.sha256.specs.Four.{digests};
 ghost use Rattle.gf64.specs.Field.{foldBytes};
-ghost use Rattle.gf64.specs.Table.{tableOf};
+ghost use Rattle.gf64.specs.Table.{keyTable};
 ghost use Rattle.bench.specs.Folds.{foldsWhere};
 ghost use Prim.Native.Nat.{ℕ};
 ghost use Rattle.chacha20.specs.ChaCha.{blockOf};
-ghost use Rattle.chacha20.specs.Lanes.{blocksOf};
+ghost use Rattle.chacha20.specs.FourStates.{blocksOf};
 
 #[no_mangle]
 pub extern "C" fn bench_chacha20_one(
@@ -56,7 +56,7 @@ pub extern "C" fn bench_fold(key: u64, s: &[u8]) -> u64
 
 #[no_mangle]
 pub extern "C" fn bench_fold_table(key: u64, table: &mut [u32; 512])
-    ensures { λ _. ⌜ now (table .exit) ≡ tableOf key ⌝ }
+    ensures { λ _. ⌜ now (table .exit) ≡ keyTable key ⌝ }
 {
     *table = gf64::table(key);
 }
@@ -64,7 +64,7 @@ pub extern "C" fn bench_fold_table(key: u64, table: &mut [u32; 512])
 // The folds of four columns by the table of a key, or of none where the lengths do not fit.
 #[no_mangle]
 pub extern "C" fn bench_fold_four(table: &[u32; 512], s: &[u8], len: usize, out: &mut [u64; 4])
-    ensures { λ _. ⌜ ((g : ℕ) → now (table .entry) ≡ tableOf g → now (out .exit) ≡ foldsWhere g len (now (s .entry)) (now (out .entry))) ⌝ }
+    ensures { λ _. ⌜ ((g : ℕ) → now (table .entry) ≡ keyTable g → now (out .exit) ≡ foldsWhere g len (now (s .entry)) (now (out .entry))) ⌝ }
 {
     if len != s.len() / 4 {
         return;
@@ -72,5 +72,5 @@ pub extern "C" fn bench_fold_four(table: &[u32; 512], s: &[u8], len: usize, out:
     if s.len() % 4 != 0 {
         return;
     }
-    *out = gf64::fold_four(table, s, len);
+    *out = gf64::fold_four(table, len, s);
 }

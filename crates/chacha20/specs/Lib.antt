@@ -1,4 +1,3 @@
 pub mod ChaCha
-pub mod Nonce
-pub mod Lanes
+pub mod FourStates
 pub mod Vector

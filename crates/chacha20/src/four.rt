@@ -5,7 +5,7 @@ ghost use lib.ListN.{length};
 ghost use Rattle.words.specs.Bytes.{word32};
 ghost use Rattle.words.specs.Lanes.{lane, putLane};
 ghost use Rattle.chacha20.specs.ChaCha.{doubleRound, doubleRounds, startOf};
-ghost use Rattle.chacha20.specs.Lanes.{keyIn, blocksOf, listed, EachLane};
+ghost use Rattle.chacha20.specs.FourStates.{keyIn, blocksOf, listed, EachLane};
 
 // One lane's state, in locals: the loop over the lanes is vectorized only if no lane is an array of its own.
 pub struct State {

@@ -7,7 +7,6 @@ ghost use Prim.Native.Nat.{_+_, _<_};
 ghost use lib.ListN.{length};
 ghost use Rattle.words.specs.Bytes.{word32};
 ghost use Rattle.chacha20.specs.ChaCha.{quarterRound, addWords};
-ghost use Rattle.chacha20.specs.Nonce.{nonceOf};
 
 pub struct Quad {
     pub a: u32,
@@ -21,28 +20,19 @@ fn quarter(a: u32, b: u32, c: u32, d: u32) -> Quad
     ensures { λ r. ⌜ r ≡ quarterRound a b c d ⌝ }
 {
     let a1 = words::add(a, b);
-    let d1 = words::rotate_left(d ^ a1, 16);
+    let d1 = words::rotate_left(16, d ^ a1);
     let c1 = words::add(c, d1);
-    let b1 = words::rotate_left(b ^ c1, 12);
+    let b1 = words::rotate_left(12, b ^ c1);
     let a2 = words::add(a1, b1);
-    let d2 = words::rotate_left(d1 ^ a2, 8);
+    let d2 = words::rotate_left(8, d1 ^ a2);
     let c2 = words::add(c1, d2);
-    let b2 = words::rotate_left(b1 ^ c2, 7);
+    let b2 = words::rotate_left(7, b1 ^ c2);
     Quad {
         a: a2,
         b: b2,
         c: c2,
         d: d2,
     }
-}
-
-// The nonce of a use number and a batch number.
-pub fn nonce(purpose: u32, batch: u32) -> [u8; 12]
-    ensures { λ r. ⌜ r ≡ nonceOf purpose batch ⌝ }
-{
-    let p = words::bytes32(purpose);
-    let b = words::bytes32(batch);
-    [p[0], p[1], p[2], p[3], b[0], b[1], b[2], b[3], 0, 0, 0, 0]
 }
 
 // The word at a place of a nonce.

@@ -5,7 +5,7 @@ ghost use Rattle.words.specs.Bytes.{word32};
 ghost use Rattle.chacha20.specs.ChaCha.{quarterAt, doubleRound, doubleRounds, startOf, blockOf};
 
 // The quarter round on words i, j, k and l of a state.
-fn quarter_round(s: &mut [u32; 16], i: usize, j: usize, k: usize, l: usize)
+fn quarter_round(i: usize, j: usize, k: usize, l: usize, s: &mut [u32; 16])
     requires { ⌜ (i < 16) × (j < 16) × (k < 16) × (l < 16) ⌝ }
     ensures { λ _. ⌜ now (s .exit) ≡ quarterAt i j k l (now (s .entry)) ⌝ }
 {
@@ -19,14 +19,14 @@ fn quarter_round(s: &mut [u32; 16], i: usize, j: usize, k: usize, l: usize)
 fn double_round(s: &mut [u32; 16])
     ensures { λ _. ⌜ now (s .exit) ≡ doubleRound (now (s .entry)) ⌝ }
 {
-    quarter_round(s, 0, 4, 8, 12);
-    quarter_round(s, 1, 5, 9, 13);
-    quarter_round(s, 2, 6, 10, 14);
-    quarter_round(s, 3, 7, 11, 15);
-    quarter_round(s, 0, 5, 10, 15);
-    quarter_round(s, 1, 6, 11, 12);
-    quarter_round(s, 2, 7, 8, 13);
-    quarter_round(s, 3, 4, 9, 14);
+    quarter_round(0, 4, 8, 12, s);
+    quarter_round(1, 5, 9, 13, s);
+    quarter_round(2, 6, 10, 14, s);
+    quarter_round(3, 7, 11, 15, s);
+    quarter_round(0, 5, 10, 15, s);
+    quarter_round(1, 6, 11, 12, s);
+    quarter_round(2, 7, 8, 13, s);
+    quarter_round(3, 4, 9, 14, s);
 }
 
 fn rounds(s: &mut [u32; 16])

@@ -9,7 +9,7 @@ use lib.Bits.{bitXor, xor-zero-r}
 use lib.ListN.{getD}
 use Rattle.words.specs.Bytes.{part, concat}
 use Rattle.words.specs.Bits.{bitOf, bitAt}
-use Rattle.words.specs.Xor.{xorList, scale}
+use Rattle.words.specs.Xor.{_⊕_, xorList, scale}
 use Rattle.words.proofs.Xor.{bit-lt, xor-assoc, xor-cancel, scale-xor}
 use Rattle.words.proofs.Sums.{sumTo-same, ofBits-lt, ofBits-bit}
 use Rattle.words.proofs.Lists.{tabulate-at, xorEach-at, xorEach-is, scale-at}
@@ -27,7 +27,7 @@ use Rattle.columns.proofs.Tables.{uOf-length, receiverColumn-length, se
 
 -- the siblings one after the other give the sender's first column, so the receiver's ⊕ d's bit times u
 beside-honest : (k : ℕ) (root : List ℕ) (d : ℕ) (f : ℕ → List ℕ → ℕ) (b : ℕ) → d < 2 ^ k
-    → besideAt k (concat k (siblingNode k root d)) d f b ≡ bitXor (receiverAt k root f b) (bitOf d b * uAt k root f)
+    → besideAt k (concat k (siblingNode k root d)) d f b ≡ receiverAt k root f b ⊕ bitOf d b * uAt k root f
 unfolding besideAt
 beside-honest k root d f b h =
     sumTo-same k (λ l. below (part (32 * l) 32 (concat k (siblingNode k root d))) l) (λ l. below (siblingNode k root d l) l)
@@ -40,11 +40,11 @@ beside-honest k root d f b h =
   where
     -- what the sender counts below a node of level l
     below : List ℕ → ℕ → ℕ
-    below m l = sumBelow (k - 1 - l) m (siblingNumber k d l) (λ y leaf. bitOf (bitXor y d) b * f y leaf)
+    below m l = sumBelow (k - 1 - l) m (siblingNumber k d l) (λ y leaf. bitOf (y ⊕ d) b * f y leaf)
 
 -- so, where u ⊕ the tree's correction is some column, the sender's column is the receiver's ⊕ d's bit times that column
 pub sender-column : (k : ℕ) (stream : ℕ → List ℕ → ℕ) (len : ℕ) (root : List ℕ) (d : ℕ) (correction column : List ℕ) (b : ℕ) → d < 2 ^ k
-    → ((x : ℕ) → x < len → bitXor (uAt k root (λ y leaf. stream x leaf)) (getD correction x 0) ≡ getD column x 0)
+    → ((x : ℕ) → x < len → uAt k root (λ y leaf. stream x leaf) ⊕ getD correction x 0 ≡ getD column x 0)
     → senderColumn k stream len (concat k (siblingNode k root d)) d correction b
     ≡ xorList (receiverColumn k stream len root b) (scale (bitOf d b) column)
 unfolding senderColumn receiverColumn
@@ -59,25 +59,25 @@ sender-column k stream len root d correction column b h meets =
 
     at : (x : ℕ) → x < len
         → getD (senderColumn k stream len siblings d correction b) x 0
-        ≡ bitXor (getD (receiverColumn k stream len root b) x 0) (getD (scale (bitOf d b) column) x 0)
+        ≡ getD (receiverColumn k stream len root b) x 0 ⊕ getD (scale (bitOf d b) column) x 0
     at x lt =
         let p : ℕ = bitOf d b in
         let received : ℕ = receiverAt k root (λ y leaf. stream x leaf) b in
         let u : ℕ = uAt k root (λ y leaf. stream x leaf) in
         let c : ℕ = getD correction x 0 in
         tabulate-at len _ x lt
-        ∙ ap (λ (z : ℕ). bitXor z (p * c)) (beside-honest k root d (λ y leaf. stream x leaf) b h)
+        ∙ ap (λ (z : ℕ). z ⊕ p * c) (beside-honest k root d (λ y leaf. stream x leaf) b h)
         ∙ xor-assoc received (p * u) (p * c)
         ∙ ap (bitXor received)
         (sym (scale-xor p u c (bit-lt d b))
         ∙ ap (λ (z : ℕ). p * z) (meets x lt)
         ∙ sym (scale-at p column x))
-        ∙ ap (λ (z : ℕ). bitXor z (getD (scale p column) x 0))
+        ∙ ap (λ (z : ℕ). z ⊕ getD (scale p column) x 0)
         (sym (tabulate-at len (λ x. receiverAt k root (λ y leaf. stream x leaf) b) x lt))
 
 -- the honest correction: u_i ⊕ correction i is u_0, at each byte
 pub corrected : (n k : ℕ) (stream : ℕ → List ℕ → ℕ) (len : ℕ) (roots : List ℕ) (i x : ℕ) → i < n → x < len
-    → bitXor (uAt k (rootOf roots i) (λ y leaf. stream x leaf)) (getD (treeCorrection len (correctionOf n k stream len roots) i) x 0)
+    → uAt k (rootOf roots i) (λ y leaf. stream x leaf) ⊕ getD (treeCorrection len (correctionOf n k stream len roots) i) x 0
     ≡ getD (choicesOf k stream len roots) x 0
 unfolding uOf treeCorrection
 corrected n k stream len roots zero x h hx =
@@ -116,7 +116,7 @@ delta-bit k delta c h =
 -- times the column of its tree
 pub corrected-column : (n k : ℕ) (stream : ℕ → List ℕ → ℕ) (len : ℕ) (siblings delta roots : List ℕ) (correction column : ℕ → List ℕ)
     → ((i : ℕ) → i < n → treePart k 32 i siblings ≡ concat k (siblingNode k (rootOf roots i) (deltaOf k delta i)))
-    → ((i x : ℕ) → i < n → x < len → bitXor (uAt k (rootOf roots i) (λ y leaf. stream x leaf)) (getD (correction i) x 0) ≡ getD (column i) x 0)
+    → ((i x : ℕ) → i < n → x < len → uAt k (rootOf roots i) (λ y leaf. stream x leaf) ⊕ getD (correction i) x 0 ≡ getD (column i) x 0)
     → (c : ℕ) → c < n * k
     → columnOf len (senderTable n k stream len siblings delta correction) c
     ≡ xorList (columnOf len (receiverTable n k stream len roots) c) (scale (bitAt delta c) (column (c / k)))

@@ -25,7 +25,7 @@ fn store_tree(k: usize, len: usize, stride: usize, v: &[u32], l: usize, out: &mu
         let end = at + len;
         let from = b * stride;
         let to = from + len;
-        words::store_lane(&mut out[at..end], &v[from..to], l);
+        words::store_lane(&mut out[at..end], l, &v[from..to]);
         b += 1;
     }
 }

@@ -1,5 +1,4 @@
 -- The laws that other crates cite.
-pub mod Every
-pub mod Laws
+pub mod MessageLaws
 pub mod Folds
 pub mod Sides

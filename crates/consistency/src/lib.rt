@@ -9,11 +9,10 @@ ghost use Rattle.words.specs.Bytes.{Bytes, bytes, word64, concat};
 ghost use Rattle.words.specs.Bits.{bitAt};
 ghost use Rattle.words.specs.Xor.{_⊕_};
 ghost use Rattle.gf64.specs.Field.{foldBytes};
-ghost use Rattle.gf64.specs.Table.{tableOf};
-ghost use Rattle.gf64.specs.Check.{choiceSide};
+ghost use Rattle.gf64.specs.Table.{keyTable};
 ghost use Rattle.sizes.specs.Sizes.{columns};
 ghost use Rattle.tree.specs.Layout.{columnOf};
-ghost use Rattle.consistency.specs.Message.{checkMessage, sentChoice, sentColumn, accepts};
+ghost use Rattle.consistency.specs.Message.{checkMessage, sentChoice, sentColumn, choiceSide, accepts};
 
 // Lays out four words, 8 bytes each.
 fn store_four(out: &mut [u8], x: [u64; 4])
@@ -28,16 +27,16 @@ fn store_four(out: &mut [u8], x: [u64; 4])
 }
 
 // The folds of m columns of len bytes, 8 bytes each, by the table of a key. (Both sides of the check fold by it.)
-pub fn fold_columns(m: usize, t: &[u32; 512], table: &[u8], len: usize, out: &mut [u8])
+pub fn fold_columns(m: usize, len: usize, t: &[u32; 512], table: &[u8], out: &mut [u8])
     requires { ⌜ (m % 4 ≡ 0) × (length (now table) ≡ m * len) × (length (now out) ≡ 8 * m) ⌝ }
-    ensures { λ _. ⌜ ((g : ℕ) → now (t .entry) ≡ tableOf g → now (out .exit) ≡ concat m (λ c. bytes 8 (foldBytes g (columnOf len (now (table .entry)) c)))) ⌝ }
+    ensures { λ _. ⌜ ((g : ℕ) → now (t .entry) ≡ keyTable g → now (out .exit) ≡ concat m (λ c. bytes 8 (foldBytes g (columnOf len (now (table .entry)) c)))) ⌝ }
 {
     let mut i: usize = 0;
     while i < m {
         let next = i + 4;
         let from = i * len;
         let to = next * len;
-        let x = gf64::fold_four(t, &table[from..to], len);
+        let x = gf64::fold_four(t, len, &table[from..to]);
         let at = i * 8;
         let end = next * 8;
         store_four(&mut out[at..end], x);
@@ -54,7 +53,7 @@ pub fn write_message(m: usize, key: u64, choices: &[u8], table: &[u8], message: 
     let t = gf64::table(key);
     let start: usize = 8;
     let end = start + 8 * m;
-    fold_columns(m, &t, table, choices.len(), &mut message[start..end]);
+    fold_columns(m, choices.len(), &t, table, &mut message[start..end]);
 }
 
 // The two sides of the check in column c, added, where folds has those of the sender's columns: 0 where they are equal.
@@ -85,13 +84,13 @@ fn all_equal(m: usize, folds: &[u8], delta: &[u8], message: &[u8]) -> bool
 }
 
 // Whether the sender accepts a message for its table of m columns of len bytes.
-pub fn accepts(m: usize, key: u64, table: &[u8], delta: &[u8], message: &[u8], len: usize) -> bool
+pub fn accepts(m: usize, len: usize, key: u64, table: &[u8], delta: &[u8], message: &[u8]) -> bool
     requires { ⌜ (m % 4 ≡ 0) × (m ≤ columns) × (length (now table) ≡ m * len) × (m ≤ 8 * length (now delta)) × (length (now message) ≡ 8 + 8 * m) ⌝ }
     ensures { λ r. ⌜ r ≡ accepts m len key (now (table .entry)) (now (delta .entry)) (now (message .entry)) ⌝ }
 {
     let t = gf64::table(key);
     let size = 8 * m;
     let mut folds = [0u8; 1024];
-    fold_columns(m, &t, table, len, &mut folds[0..size]);
+    fold_columns(m, len, &t, table, &mut folds[0..size]);
     all_equal(m, &folds[0..size], delta, message)
 }

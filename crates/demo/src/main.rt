@@ -7,6 +7,7 @@ use libc::STDOUT_FILENO;
 ghost use mathlib.Core.Path.{_≡_};
 ghost use Prim.Native.Nat.{_*_, _≤_};
 ghost use lib.ListN.{length};
+ghost use Rattle.sizes.specs.Sizes.{deltaLength, receiverBasePadsLength, senderBasePadsLength, siblingsLength, receiverPadsLength, senderPadsLength};
 
 // Two sessions, one on each side.
 struct Sessions {
@@ -177,7 +178,7 @@ fn tree_base_pads(path: u8, pairs: &[u8], out: &mut [u8])
 
 // The pads that 128 base transfers leave the sender. At width 8 a tree's part of delta is a byte.
 fn sender_base_pads(delta: &[u8], pairs: &[u8], out: &mut [u8])
-    requires { ⌜ (16 ≡ length (now delta)) × (8192 ≡ length (now pairs)) × (4096 ≡ length (now out)) ⌝ }
+    requires { ⌜ (deltaLength ≡ length (now delta)) × (receiverBasePadsLength ≡ length (now pairs)) × (senderBasePadsLength ≡ length (now out)) ⌝ }
 {
     let mut i = 0;
     while i < 16 {
@@ -188,17 +189,17 @@ fn sender_base_pads(delta: &[u8], pairs: &[u8], out: &mut [u8])
 }
 
 // Both setups: the sender's siblings. The `ensures` gives their length.
-fn siblings_of(roots: &[u8], delta: &[u8]) -> [u8; 4096]
-    requires { ⌜ 16 ≡ length (now delta) ⌝ }
-    ensures { λ r. ⌜ 4096 ≡ length r ⌝ }
+fn siblings_of(roots: &[u8], delta: &[u8]) -> [u8; sizes::SIBLINGS_LENGTH]
+    requires { ⌜ deltaLength ≡ length (now delta) ⌝ }
+    ensures { λ r. ⌜ siblingsLength ≡ length r ⌝ }
 {
     let all_pairs = cases::derived(1, 2);
-    let pairs = &all_pairs[0..8192];
-    let mut message = [0u8; 8192];
+    let pairs = &all_pairs[0..sizes::RECEIVER_BASE_PADS_LENGTH];
+    let mut message = [0u8; sizes::SETUP_MESSAGE_LENGTH];
     let first = setup::receiver_setup(8, roots, pairs, &mut message);
-    let mut pads = [0u8; 4096];
+    let mut pads = [0u8; sizes::SENDER_BASE_PADS_LENGTH];
     sender_base_pads(delta, pairs, &mut pads);
-    let mut siblings = [0u8; 4096];
+    let mut siblings = [0u8; sizes::SIBLINGS_LENGTH];
     let second = setup::sender_setup(8, delta, &pads, &message, &mut siblings);
     say_number(b"setup, width 8: answers ", answer::number_of(first) as u64);
     say_number(b" ", answer::number_of(second) as u64);
@@ -219,7 +220,7 @@ fn open_batch(
 ) -> Opened
     requires { ⌜ (b .blocks) ≤ 15 ⌝ }
 {
-    let len = 8 * (b.blocks as usize + 1);
+    let len = sizes::column_length(b.blocks);
     let mut all_correction = [0u8; 1920];
     let correction = &mut all_correction[0..15 * len];
     let receiver = both.receiver;
@@ -259,7 +260,7 @@ fn end_batch(
 ) -> Sessions {
     let start = opened.start;
     let correct = opened.correct;
-    let mut message = [0u8; 1032];
+    let mut message = [0u8; sizes::CHECK_MESSAGE_LENGTH];
     let answer = session::receiver_answer(start.record, key, choices, v, &mut message, mine);
     let verify = session::sender_verify(correct.record, key, w, delta, &message, theirs);
     say_side(b"  receiver", start, answer);
@@ -282,11 +283,11 @@ fn steps(
 ) -> Sessions
     requires { ⌜ (b .blocks) ≤ 15 ⌝ }
 {
-    let len = 8 * (b.blocks as usize + 1);
+    let size = sizes::table_length(b.blocks);
     let mut all_v = [0u8; 16384];
     let mut all_w = [0u8; 16384];
-    let v = &mut all_v[0..128 * len];
-    let w = &mut all_w[0..128 * len];
+    let v = &mut all_v[0..size];
+    let w = &mut all_w[0..size];
     let opened = open_batch(both, b, roots, delta, siblings, choices, v, w);
     end_batch(opened, b.key, delta, choices, v, w, mine, theirs)
 }
@@ -302,7 +303,7 @@ fn steps_and_pads(
     mine: &mut [u8],
     theirs: &mut [u8],
 ) -> Sessions
-    requires { ⌜ ((b .blocks) ≤ 15) × (8 * (b .blocks) ≤ length (now choices)) × (2048 * (b .blocks) ≡ length (now mine)) × (4096 * (b .blocks) ≡ length (now theirs)) ⌝ }
+    requires { ⌜ ((b .blocks) ≤ 15) × (8 * (b .blocks) ≤ length (now choices)) × (receiverPadsLength (b .blocks) ≡ length (now mine)) × (senderPadsLength (b .blocks) ≡ length (now theirs)) ⌝ }
 {
     let bytes = 8 * (b.blocks as usize);
     let after = steps(both, b, roots, delta, siblings, choices, mine, theirs);
@@ -316,13 +317,12 @@ fn play(both: Sessions, b: Batch, roots: &[u8], delta: &[u8], siblings: &[u8]) -
 {
     say_number(b"batch ", b.number as u64);
     say(b"\n");
-    let blocks = b.blocks as usize;
     let mut all_choices = [0u8; 128];
     let mut all_mine = [0u8; 30720];
     let mut all_theirs = [0u8; 61440];
-    let choices = &mut all_choices[0..8 * blocks + 8];
-    let mine = &mut all_mine[0..2048 * blocks];
-    let theirs = &mut all_theirs[0..4096 * blocks];
+    let choices = &mut all_choices[0..sizes::column_length(b.blocks)];
+    let mine = &mut all_mine[0..sizes::receiver_pads_length(b.blocks)];
+    let theirs = &mut all_theirs[0..sizes::sender_pads_length(b.blocks)];
     steps_and_pads(both, b, roots, delta, siblings, choices, mine, theirs)
 }
 
@@ -341,12 +341,7 @@ fn planned(number: u32, blocks: u32, flip: u8) -> Batch
 
 // Two sessions of width 8, opened on records that hold nothing.
 fn new_sessions() -> Sessions {
-    let r = rules::Record {
-        width: 0,
-        last: 0,
-        blocks: 0,
-        stage: 0,
-    };
+    let r = rules::new_record(0);
     let first = session::open(r, 8);
     let second = session::open(r, 8);
     let receiver = first.record;
@@ -369,8 +364,8 @@ fn main() {
     say(b"answers: 0 done, 2 wrong stage, 6 check failed; stage: 0 ready, 2 closed\n");
     let all_roots = cases::derived(1, 0);
     let all_delta = cases::derived(1, 1);
-    let roots = &all_roots[0..512];
-    let delta = &all_delta[0..16];
+    let roots = &all_roots[0..sizes::roots_length(8)];
+    let delta = &all_delta[0..sizes::DELTA_LENGTH];
     let siblings = siblings_of(roots, delta);
     play_all(roots, delta, &siblings);
 }

@@ -1,5 +1,5 @@
 -- The check in one column, whatever corrections and check message reach the sender. Assumes nothing.
-use mathlib.Core.Path.{_≡_, sym, ap, ap₂, _∙_}
+use mathlib.Core.Path.{_≡_, sym, ap, _∙_}
 use mathlib.Core.Logic.{_↔_}
 use mathlib.Core.List.{List}
 use Prim.Native.Nat.{ℕ, zero, suc, _-_, _*_, _/_, _%_, _<_}
@@ -9,12 +9,12 @@ use lib.Bits.{bitXor, xor-comm, xor-self}
 use lib.ListN.{length, getD, length-replicate}
 use Rattle.words.specs.Bytes.{Bytes}
 use Rattle.words.specs.Bits.{bitAt}
-use Rattle.words.specs.Xor.{xorList, scale}
+use Rattle.words.specs.Xor.{_⊕_, xorList, scale}
 use Rattle.words.proofs.Xor.{bit-lt, xor-assoc, xor-cancel, xor-zero-eq, scale-xor}
 use Rattle.words.proofs.Lists.{xorEach-length, xorList-at, xorList-bytes, zeros-at, scale-length, scale-bytes}
 use Rattle.words.proofs.Concat.{place-fits, part-length, part-lt}
 use Rattle.gf64.specs.Field.{foldBytes}
-use Rattle.gf64.specs.Check.{columnSide, choiceSide}
+use Rattle.consistency.specs.Message.{columnSide, choiceSide, sentChoice, sentColumn}
 use Rattle.gf64.proofs.Bytes.{foldBytes-xor, foldBytes-scale}
 use Rattle.tree.specs.Tree.{streamByte}
 use Rattle.tree.specs.Columns.{uAt}
@@ -26,31 +26,30 @@ use Rattle.columns.specs.Columns.{treeCorrection, receiverTable, senderTable}
 use Rattle.columns.proofs.Tables.{uOf-length, receiverColumn-length, correctionOf-length, correction-part, column-tree, receiver-table}
 use Rattle.columns.proofs.Honest.{beside-part, corrected, corrected-column}
 use Rattle.columns.proofs.Bounds.{uOf-bytes, receiverColumn-bytes, nextCorrection-bytes}
-use Rattle.consistency.specs.Message.{sentChoice, sentColumn}
-use Rattle.errors.specs.Errors.{Sent, lengthOf, honestChoices, honestColumn, honestCorrection, treeError, choiceError, columnError, foldedError}
+use Rattle.errors.specs.Errors.{Sent, lengthOf, honestChoices, honestCorrection, treeError, columnError, foldedError}
 
 -- ---- sums
 
 -- two pairs with the same sum: both are pairs of equals, or neither is
-same-sum : (a b c d : ℕ) → bitXor a b ≡ bitXor c d → (a ≡ b) ↔ (c ≡ d)
+same-sum : (a b c d : ℕ) → a ⊕ b ≡ c ⊕ d → (a ≡ b) ↔ (c ≡ d)
 same-sum a b c d e = (λ q. xor-zero-eq c d (sym e ∙ gone a b q), λ q. xor-zero-eq a b (e ∙ gone c d q))
   where
-    gone : (x y : ℕ) → x ≡ y → bitXor x y ≡ 0
-    gone x y q = ap (λ (z : ℕ). bitXor z y) q ∙ xor-self y
+    gone : (x y : ℕ) → x ≡ y → x ⊕ y ≡ 0
+    gone x y q = ap (λ (z : ℕ). z ⊕ y) q ∙ xor-self y
 
-turned : (s v a t : ℕ) → bitXor (bitXor s (bitXor v a)) t ≡ bitXor (bitXor t a) (bitXor s v)
+turned : (s v a t : ℕ) → s ⊕ (v ⊕ a) ⊕ t ≡ t ⊕ a ⊕ (s ⊕ v)
 turned s v a t =
-    ap (λ (x : ℕ). bitXor x t) (sym (xor-assoc s v a))
-    ∙ xor-assoc (bitXor s v) a t
-    ∙ ap (bitXor (bitXor s v)) (xor-comm a t)
-    ∙ xor-comm (bitXor s v) (bitXor t a)
+    ap (λ (x : ℕ). x ⊕ t) (sym (xor-assoc s v a))
+    ∙ xor-assoc (s ⊕ v) a t
+    ∙ ap (bitXor (s ⊕ v)) (xor-comm a t)
+    ∙ xor-comm (s ⊕ v) (t ⊕ a)
 
 -- ---- n trees of k levels, by any stream, whatever corrections the sender received
 
 -- column i is what u_i and the correction of tree i make together: the choices, and the tree's error where it has one
 module _ (n k : ℕ) (stream : ℕ → List ℕ → ℕ) (len : ℕ) (roots delta : List ℕ) (correction column : ℕ → List ℕ)
     (small : (x : ℕ) (leaf : List ℕ) → stream x leaf < 256)
-    (meets : (i x : ℕ) → i < n → x < len → bitXor (uAt k (rootOf roots i) (λ y leaf. stream x leaf)) (getD (correction i) x 0) ≡ getD (column i) x 0)
+    (meets : (i x : ℕ) → i < n → x < len → uAt k (rootOf roots i) (λ y leaf. stream x leaf) ⊕ getD (correction i) x 0 ≡ getD (column i) x 0)
     (long : (i : ℕ) → i < n → length (column i) ≡ len) (bytes : (i : ℕ) → i < n → Bytes (column i)) (g c : ℕ) (lt : c < n * k) where
   abbrev tree : ℕ
   tree = c / k
@@ -68,7 +67,7 @@ module _ (n k : ℕ) (stream : ℕ → List ℕ → ℕ) (len : ℕ) (roots delt
   bit = bit-lt (getD delta (c / 8) 0) (c % 8)
 
   -- the fold of the sender's column
-  pub sender-fold : foldBytes g (columnOf len table c) ≡ bitXor (foldBytes g own) (p * foldBytes g (column tree))
+  pub sender-fold : foldBytes g (columnOf len table c) ≡ foldBytes g own ⊕ p * foldBytes g (column tree)
   unfolding besidePaths
   sender-fold =
       let h = column-tree n k c lt .0 in
@@ -83,13 +82,13 @@ module _ (n k : ℕ) (stream : ℕ → List ℕ → ℕ) (len : ℕ) (roots delt
   -- the two sides of the check are equal exactly when what the choice fold of the tree differs by, times delta's bit, is what the sent fold
   -- of the column differs by
   pub one-column : (sent choice : ℕ) → (columnSide g sent (columnOf len table c) ≡ choiceSide p choice)
-      ↔ (p * bitXor choice (foldBytes g (column tree)) ≡ bitXor sent (foldBytes g own))
+      ↔ (p * (choice ⊕ foldBytes g (column tree)) ≡ sent ⊕ foldBytes g own)
   one-column sent choice =
       let e : ℕ = foldBytes g (column tree) in
-      same-sum (columnSide g sent (columnOf len table c)) (p * choice) (p * bitXor choice e) (bitXor sent (foldBytes g own))
-      (ap (λ (w : ℕ). bitXor (bitXor sent w) (p * choice)) sender-fold
+      same-sum (columnSide g sent (columnOf len table c)) (p * choice) (p * (choice ⊕ e)) (sent ⊕ foldBytes g own)
+      (ap (λ (w : ℕ). sent ⊕ w ⊕ p * choice) sender-fold
       ∙ turned sent (foldBytes g own) (p * e) (p * choice)
-      ∙ ap (λ (x : ℕ). bitXor x (bitXor sent (foldBytes g own))) (sym (scale-xor p choice e bit)))
+      ∙ ap (λ (x : ℕ). x ⊕ (sent ⊕ foldBytes g own)) (sym (scale-xor p choice e bit)))
 
 -- ---- what reached the sender
 
@@ -123,7 +122,7 @@ module _ (s : Sent) (fits : length (s .correction) ≡ (treesOf (s .width) - 1) 
 
   -- the received correction is the honest one, with the error added
   error-at : (i : ℕ) → i < n → (x : ℕ) → x < len
-      → getD (treeCorrection len (s .correction) i) x 0 ≡ bitXor (getD (treeCorrection len (honestCorrection s) i) x 0) (getD (treeError s i) x 0)
+      → getD (treeCorrection len (s .correction) i) x 0 ≡ getD (treeCorrection len (honestCorrection s) i) x 0 ⊕ getD (treeError s i) x 0
   unfolding treeError treeCorrection
   error-at zero h x lt = sym (zeros-at len x)
   error-at (suc i) h x lt =
@@ -158,14 +157,14 @@ module _ (s : Sent) (fits : length (s .correction) ≡ (treesOf (s .width) - 1) 
   choices-bytes = uOf-bytes stream (stream-lt (s .batch)) k len (rootOf (s .roots) 0)
 
   column-at : (i x : ℕ) → i < n → x < len
-      → bitXor (uAt k (rootOf (s .roots) i) (λ y leaf. stream x leaf)) (getD (treeCorrection len (s .correction) i) x 0) ≡ getD (column i) x 0
+      → uAt k (rootOf (s .roots) i) (λ y leaf. stream x leaf) ⊕ getD (treeCorrection len (s .correction) i) x 0 ≡ getD (column i) x 0
   column-at i x h lt =
       let u : ℕ = uAt k (rootOf (s .roots) i) (λ y leaf. stream x leaf) in
       let honest : ℕ = getD (treeCorrection len (honestCorrection s) i) x 0 in
       let e : ℕ = getD (treeError s i) x 0 in
       ap (bitXor u) (error-at i h x lt)
       ∙ sym (xor-assoc u honest e)
-      ∙ ap (λ (y : ℕ). bitXor y e) (corrected n k stream len (s .roots) i x h lt)
+      ∙ ap (λ (y : ℕ). y ⊕ e) (corrected n k stream len (s .roots) i x h lt)
       ∙ sym (xorList-at (honestChoices s) (treeError s i) (choices-length ∙ sym (error-length i h)) x)
 
   -- the two sides are equal exactly when delta's bit times the folded error of the tree is the error in the sent fold
@@ -181,7 +180,7 @@ module _ (s : Sent) (fits : length (s .correction) ≡ (treesOf (s .width) - 1) 
       let u : ℕ = foldBytes (s .key) (honestChoices s) in
       let e : ℕ = foldBytes (s .key) (treeError s i) in
       let same : length (honestChoices s) ≡ length (treeError s i) = choices-length ∙ sym (error-length i h) in
-      let folded : bitXor choice (foldBytes (s .key) (column i)) ≡ foldedError s i =
+      let folded : (choice ⊕ foldBytes (s .key) (column i)) ≡ foldedError s i =
       ap (bitXor choice) (foldBytes-xor (s .key) (honestChoices s) (treeError s i) same choices-bytes (error-bytes small i h)) ∙ sym (xor-assoc choice u e) in
       let law =
       one-column n k stream len (s .roots) delta (treeCorrection len (s .correction)) column (stream-lt (s .batch)) column-at

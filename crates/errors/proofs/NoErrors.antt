@@ -6,7 +6,7 @@ use native.Mathlib.Nat.{zero-lt-suc, mul-zero}
 use lib.Bits.{bitXor, xor-self}
 use Rattle.words.specs.Bytes.{Bytes, part}
 use Rattle.words.specs.Bits.{bitAt}
-use Rattle.words.specs.Xor.{xorList}
+use Rattle.words.specs.Xor.{_⊕_, xorList}
 use Rattle.words.proofs.Concat.{part-lt}
 use Rattle.gf64.specs.Field.{foldBytes}
 use Rattle.gf64.proofs.Bytes.{foldBytes-xor, foldBytes-zeros}
@@ -15,7 +15,7 @@ use Rattle.sizes.specs.Sizes.{columns, treesOf}
 use Rattle.tree.proofs.Streams.{stream-lt}
 use Rattle.columns.specs.Columns.{treeCorrection}
 use Rattle.consistency.specs.Message.{checkMessage, sentChoice, sentColumn}
-use Rattle.consistency.proofs.Laws.{sent-choice, sent-column}
+use Rattle.consistency.proofs.MessageLaws.{sent-choice, sent-column}
 use Rattle.errors.specs.Errors.{Sent, lengthOf, honestChoices, honestTable, honestColumn, honestCorrection, treeError, choiceError, columnError, foldedError}
 use Rattle.columns.proofs.Bounds.{uOf-bytes, receiverTable-bytes, correctionOf-bytes}
 
@@ -34,8 +34,8 @@ module _ (s : Sent) (fits : s .key < 2 ^ 64)
   small : (x : ℕ) (leaf : List ℕ) → stream x leaf < 256
   small = stream-lt (s .batch)
 
-  gone : (x y : ℕ) → x ≡ y → bitXor x y ≡ 0
-  gone x y e = ap (λ (z : ℕ). bitXor z y) e ∙ xor-self y
+  gone : (x y : ℕ) → x ≡ y → x ⊕ y ≡ 0
+  gone x y e = ap (λ (z : ℕ). z ⊕ y) e ∙ xor-self y
 
   no-choice-error : choiceError s ≡ 0
   no-choice-error =

@@ -7,7 +7,7 @@ ghost use lib.Dec.{eqb};
 ghost use Rattle.answer.specs.declared.Answer.the-variants.{Length};
 ghost use Rattle.answer.specs.Answer.{firstOf};
 ghost use Rattle.answer.specs.Next.{next};
-ghost use Rattle.rules.specs.Orders.{receiverSetupOrder, senderSetupOrder, openOrder, mayOpen, startOrder, correctOrder, mayEnd, answerOrder, beforeCheck};
+ghost use Rattle.rules.specs.Orders.{receiverSetupOrder, senderSetupOrder, sessionOrder, batchOrder, startOrder, correctOrder, endOrder, answerOrder, beforeCheck};
 
 // A range of the length named.
 fn has(so_far: Answer, found: usize, named: usize) -> Answer
@@ -18,7 +18,7 @@ fn has(so_far: Answer, found: usize, named: usize) -> Answer
 
 // The answer of opening a session.
 pub fn open_session(width: u32) -> Answer
-    ensures { λ x. ⌜ x ≡ firstOf (openOrder width) ⌝ }
+    ensures { λ x. ⌜ x ≡ firstOf (sessionOrder width) ⌝ }
 {
     answer::next(Answer::Done, sizes::width_allowed(width), Answer::Width)
 }
@@ -50,9 +50,9 @@ pub fn sender_setup(
     has(a, siblings, sizes::SIBLINGS_LENGTH)
 }
 
-// Whether a batch may be opened.
-fn may_open(r: Record, batch: u32, blocks: u32) -> Answer
-    ensures { λ x. ⌜ x ≡ firstOf (mayOpen r batch blocks) ⌝ }
+// The answer of both steps that open a batch, before their lengths.
+fn open_batch(r: Record, batch: u32, blocks: u32) -> Answer
+    ensures { λ x. ⌜ x ≡ firstOf (batchOrder r batch blocks) ⌝ }
 {
     let mut a = open_session(r.width);
     a = answer::next(a, r.stage == rules::READY, Answer::Stage);
@@ -60,9 +60,9 @@ fn may_open(r: Record, batch: u32, blocks: u32) -> Answer
     answer::next(a, rules::blocks_allowed(blocks), Answer::Blocks)
 }
 
-// Whether the open batch may be ended.
-fn may_end(r: Record) -> Answer
-    ensures { λ x. ⌜ x ≡ firstOf (mayEnd r) ⌝ }
+// The answer of both steps that end one, before their lengths.
+fn end_batch(r: Record) -> Answer
+    ensures { λ x. ⌜ x ≡ firstOf (endOrder r) ⌝ }
 {
     let mut a = open_session(r.width);
     a = answer::next(a, r.stage == rules::OPEN, Answer::Stage);
@@ -82,7 +82,7 @@ pub fn receiver_start(
 ) -> Answer
     ensures { λ x. ⌜ x ≡ firstOf (startOrder r batch blocks roots choices table correction) ⌝ }
 {
-    let mut a = may_open(r, batch, blocks);
+    let mut a = open_batch(r, batch, blocks);
     a = has(a, roots, sizes::roots_length(r.width));
     a = has(a, choices, sizes::column_length(blocks));
     a = has(a, table, sizes::table_length(blocks));
@@ -101,7 +101,7 @@ pub fn sender_correct(
 ) -> Answer
     ensures { λ x. ⌜ x ≡ firstOf (correctOrder r batch blocks siblings delta correction table) ⌝ }
 {
-    let mut a = may_open(r, batch, blocks);
+    let mut a = open_batch(r, batch, blocks);
     a = has(a, siblings, sizes::SIBLINGS_LENGTH);
     a = has(a, delta, sizes::DELTA_LENGTH);
     a = has(a, correction, sizes::correction_length(r.width, blocks));
@@ -118,7 +118,7 @@ pub fn receiver_answer(
 ) -> Answer
     ensures { λ x. ⌜ x ≡ firstOf (answerOrder r choices table message pads) ⌝ }
 {
-    let mut a = may_end(r);
+    let mut a = end_batch(r);
     a = has(a, choices, sizes::column_length(r.blocks));
     a = has(a, table, sizes::table_length(r.blocks));
     a = has(a, message, sizes::CHECK_MESSAGE_LENGTH);
@@ -129,7 +129,7 @@ pub fn receiver_answer(
 pub fn sender_verify(r: Record, table: usize, delta: usize, message: usize, pads: usize) -> Answer
     ensures { λ x. ⌜ x ≡ firstOf (beforeCheck r table delta message pads) ⌝ }
 {
-    let mut a = may_end(r);
+    let mut a = end_batch(r);
     a = has(a, table, sizes::table_length(r.blocks));
     a = has(a, delta, sizes::DELTA_LENGTH);
     a = has(a, message, sizes::CHECK_MESSAGE_LENGTH);

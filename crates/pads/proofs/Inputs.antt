@@ -62,10 +62,10 @@ four-hashed batch first values e =
 -- ---- eight by two times four
 
 -- pads of four values from value i on
-pub four-from : (batch first start i : ℕ) (values : List ℕ) → start ≡ first + i
+pub four-pads-from : (batch first start i : ℕ) (values : List ℕ) → start ≡ first + i
     → concat 4 (λ j. padOf batch (start + j) (part (j * 16) 16 (part (i * 16) ((i + 4) * 16 - i * 16) values)))
     ≡ concat 4 (λ j. padOf batch (first + (i + j)) (part ((i + j) * 16) 16 values))
-four-from batch first start i values e =
+four-pads-from batch first start i values e =
     concat-same 4 _ _
     (λ j h. ap₂ (padOf batch) (ap (λ (n : ℕ). n + j) e ∙ add-assoc first i j) (place-part i 4 j 16 values h))
 

@@ -67,7 +67,7 @@ fn eight_pads(batch: u64, first: u32, values: &[u8], pads: &mut [u8])
 }
 
 // The receiver's pads: one for each row of its table, but those of the spent block.
-pub fn receiver_pads(batch: u64, blocks: usize, table: &[u8], pads: &mut [u8])
+pub fn receiver_pads(blocks: usize, batch: u64, table: &[u8], pads: &mut [u8])
     requires { ⌜ (blocks ≤ 15) × (length (now table) ≡ tableLength blocks) × (length (now pads) ≡ receiverPadsLength blocks) ⌝ }
     ensures { λ _. ⌜ now (pads .exit) ≡ receiverPads columns blocks batch (now (table .entry)) ⌝ }
 {
@@ -76,7 +76,7 @@ pub fn receiver_pads(batch: u64, blocks: usize, table: &[u8], pads: &mut [u8])
     let mut at = 0;
     while at < groups {
         let next = at + 1;
-        let values = rows::eight_rows(table, len, at);
+        let values = rows::eight_rows(len, table, at);
         let start = at * 256;
         let end = next * 256;
         eight_pads(batch, (8 * at) as u32, &values, &mut pads[start..end]);
@@ -116,7 +116,7 @@ fn eight_pairs(batch: u64, first: u32, values: [u8; 128], delta: &[u8], pairs: &
 }
 
 // The sender's pads: two for each row of its table, but those of the spent block.
-pub fn sender_pads(batch: u64, blocks: usize, table: &[u8], delta: &[u8], pads: &mut [u8])
+pub fn sender_pads(blocks: usize, batch: u64, table: &[u8], delta: &[u8], pads: &mut [u8])
     requires { ⌜ (blocks ≤ 15) × (length (now table) ≡ tableLength blocks) × (length (now delta) ≡ deltaLength) × (length (now pads) ≡ senderPadsLength blocks) ⌝ }
     ensures { λ _. ⌜ now (pads .exit) ≡ senderPads columns blocks batch (now (table .entry)) (now (delta .entry)) ⌝ }
 {
@@ -124,7 +124,7 @@ pub fn sender_pads(batch: u64, blocks: usize, table: &[u8], delta: &[u8], pads: 
     let mut at = 0;
     while at < 8 * blocks {
         let next = at + 1;
-        let values = rows::eight_rows(table, len, at);
+        let values = rows::eight_rows(len, table, at);
         let start = at * 512;
         let end = next * 512;
         eight_pairs(batch, (8 * at) as u32, values, delta, &mut pads[start..end]);

@@ -15,10 +15,10 @@ use Rattle.words.proofs.Lists.{tabulate-length, tabulate-at, zeros-at, zeros-su
 use Rattle.words.proofs.Concat.{place-fits, part-at, place-part, concat-same, concat-add, concat-length, concat-part}
 use Rattle.words.proofs.Layouts.{Laid, laid-more}
 use Rattle.words.proofs.LaneBytes.{lane-is}
-use Rattle.chacha20.specs.Lanes.{keyIn}
+use Rattle.chacha20.specs.FourStates.{keyIn}
 use Rattle.tree.specs.declared.Stream.{Stream}
 use Rattle.tree.specs.Columns.{uAt, receiverAt}
-use Rattle.tree.specs.Lanes.{uWord, columnWord}
+use Rattle.tree.specs.WalkWords.{uWord, columnWord}
 use Rattle.tree.specs.Streams.{byteOf, wordOf}
 use Rattle.tree.specs.Layout.{rootOf}
 use Rattle.tree.proofs.Streams.{u-lane, column-lane}
@@ -196,10 +196,10 @@ choices-are f n m choices correction some each long made =
 
 -- ---- the choices are added to n sums u
 
-pub corrected : (n len : ℕ) (f : ℕ → List ℕ) → ((i : ℕ) → length (f i) ≡ len) → (choices correction u₀ : List ℕ) → choices ≡ u₀ → length u₀ ≡ len
+pub corrections-made : (n len : ℕ) (f : ℕ → List ℕ) → ((i : ℕ) → length (f i) ≡ len) → (choices correction u₀ : List ℕ) → choices ≡ u₀ → length u₀ ≡ len
     → correction ≡ concat n f
     → concat n (λ i. xorList (part (i * length choices) (length choices) correction) choices) ≡ concat n (λ i. xorList (f i) u₀)
-corrected n len f each choices correction u₀ chosen long sums =
+corrections-made n len f each choices correction u₀ chosen long sums =
     concat-same n (λ i. xorList (part (i * length choices) (length choices) correction) choices) (λ i. xorList (f i) u₀)
     (λ i h.
     ap (λ (m : ℕ). xorList (part (i * m) m correction) choices) (ap length chosen ∙ long)

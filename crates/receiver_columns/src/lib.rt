@@ -10,7 +10,8 @@ ghost use Rattle.tree.specs.Layout.{rootOf};
 ghost use Rattle.tree.specs.Sides.{TreesFit};
 ghost use Rattle.tree.specs.Streams.{byteOf};
 ghost use Rattle.columns.specs.Columns.{uOf, choicesOf, receiverColumn, receiverTable, correctionOf};
-ghost use Rattle.receiver_columns.specs.Room.{WorkFits};
+ghost use Rattle.columns.specs.Room.{ColumnFits, WorkFits};
+ghost use Rattle.receiver_columns.specs.Lent.{StartFits, FourFit};
 
 // Fills u with the sums of the streams of four trees of k levels, side by side, and v with their columns. They are whole blocks long; a
 // column of len bytes is the first len bytes of a lane.
@@ -23,21 +24,21 @@ fn walk_roots(k: usize, stream: Stream, roots: &[u8], u: &mut [u32], v: &mut [u3
     words::load_lanes(&mut nodes, roots);
     words::clear(u);
     words::clear(v);
-    tree::walk(&nodes, k, stream, u, v);
+    tree::walk(stream, k, &nodes, u, v);
 }
 
 // Lays the sum u of tree i, lane l of u, where it goes: that of tree 0 is the choices, those of the others stand one after the other in the
 // correction.
-fn hand_out(i: usize, u: &[u32], l: usize, choices: &mut [u8], correction: &mut [u8])
+fn hand_out(i: usize, l: usize, u: &[u32], choices: &mut [u8], correction: &mut [u8])
     requires { ⌜ (l < 4) × (length (now choices) ≡ length (now u)) × (length (now u) % 4 ≡ 0) × (i * length (now u) ≤ length (now correction)) ⌝ }
     ensures { λ _. ⌜ now (choices .exit) ++ now (correction .exit) ≡ put (now (choices .entry) ++ now (correction .entry)) (i * length (now (u .entry))) (laneBytes l (length (now (u .entry)) / 4) (now (u .entry))) ⌝ }
 {
     if i == 0 {
-        words::store_lane(choices, u, l);
+        words::store_lane(choices, l, u);
     } else {
         let end = i * u.len();
         let at = end - u.len();
-        words::store_lane(&mut correction[at..end], u, l);
+        words::store_lane(&mut correction[at..end], l, u);
     }
 }
 
@@ -48,7 +49,7 @@ fn hand_out_four(i: usize, u: &[u32], choices: &mut [u8], correction: &mut [u8])
 {
     let mut l = 0;
     while l < 4 {
-        hand_out(i + l, u, l, choices, correction);
+        hand_out(i + l, l, u, choices, correction);
         l += 1;
     }
 }
@@ -58,8 +59,8 @@ fn hand_out_four(i: usize, u: &[u32], choices: &mut [u8], correction: &mut [u8])
 fn four_trees(
     i: usize,
     k: usize,
-    len: usize,
     stream: Stream,
+    len: usize,
     roots: &[u8],
     u: &mut [u32],
     v: &mut [u32],
@@ -68,7 +69,7 @@ fn four_trees(
     table: &mut [u8],
 )
     requires { ⌜ WorkFits k len (now u) (now v) ⌝ }
-    requires { ⌜ (i ≤ 128) × (length (now roots) ≡ 128) × (length (now choices) ≡ len) × ((i + 3) * len ≤ length (now correction)) × (length (now table) ≡ 4 * (k * len)) ⌝ }
+    requires { ⌜ FourFit i k len (now roots) (now choices) (now correction) (now table) ⌝ }
     ensures { λ _. ⌜ now (choices .exit) ++ now (correction .exit) ≡ put (now (choices .entry) ++ now (correction .entry)) (i * len) (concat 4 (λ l. uOf k (byteOf stream) len (rootOf (now (roots .entry)) l))) ⌝ }
     ensures { λ _. ⌜ now (table .exit) ≡ concat 4 (λ l. concat k (receiverColumn k (byteOf stream) len (rootOf (now (roots .entry)) l))) ⌝ }
 {
@@ -81,8 +82,8 @@ fn four_trees(
 fn trees(
     n: usize,
     k: usize,
-    len: usize,
     stream: Stream,
+    len: usize,
     roots: &[u8],
     u: &mut [u32],
     v: &mut [u32],
@@ -91,7 +92,7 @@ fn trees(
     table: &mut [u8],
 )
     requires { ⌜ WorkFits k len (now u) (now v) ⌝ }
-    requires { ⌜ TreesFit n k × (length (now roots) ≡ n * 32) × (length (now choices) ≡ len) × (length (now correction) ≡ (n - 1) * len) × (length (now table) ≡ n * (k * len)) ⌝ }
+    requires { ⌜ StartFits n k len (now roots) (now choices) (now correction) (now table) ⌝ }
     ensures { λ _. ⌜ now (choices .exit) ++ now (correction .exit) ≡ concat n (λ i. uOf k (byteOf stream) len (rootOf (now (roots .entry)) i)) ⌝ }
     ensures { λ _. ⌜ now (table .exit) ≡ receiverTable n k (byteOf stream) len (now (roots .entry)) ⌝ }
 {
@@ -106,8 +107,8 @@ fn trees(
         four_trees(
             i,
             k,
-            len,
             stream,
+            len,
             &roots[first..last],
             u,
             v,
@@ -129,7 +130,8 @@ pub fn start(
     table: &mut [u8],
     correction: &mut [u8],
 )
-    requires { ⌜ TreesFit n k × (length (now roots) ≡ n * 32) × (length (now choices) % 8 ≡ 0) × (0 < length (now choices)) × (length (now choices) ≤ 128) × (length (now table) ≡ n * (k * length (now choices))) × (length (now correction) ≡ (n - 1) * length (now choices)) ⌝ }
+    requires { ⌜ ColumnFits (length (now choices)) ⌝ }
+    requires { ⌜ StartFits n k (length (now choices)) (now roots) (now choices) (now correction) (now table) ⌝ }
     ensures { λ _. ⌜ now (choices .exit) ≡ choicesOf k (byteOf stream) (length (now (choices .entry))) (now (roots .entry)) ⌝ }
     ensures { λ _. ⌜ now (table .exit) ≡ receiverTable n k (byteOf stream) (length (now (choices .entry))) (now (roots .entry)) ⌝ }
     ensures { λ _. ⌜ now (correction .exit) ≡ correctionOf n k (byteOf stream) (length (now (choices .entry))) (now (roots .entry)) ⌝ }
@@ -142,8 +144,8 @@ pub fn start(
     trees(
         n,
         k,
-        len,
         stream,
+        len,
         roots,
         &mut u[0..room],
         &mut v[0..size],

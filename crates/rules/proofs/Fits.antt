@@ -10,37 +10,92 @@ use Rattle.rules.specs.declared.Record.{Record}
 use Rattle.rules.specs.Orders.{startOrder, correctOrder, answerOrder, beforeCheck}
 use Rattle.rules.proofs.Allowed.{blocks-fit}
 
+-- the receiver's start
+pub record StartTells (r : Record) (blocks roots choices table correction : ℕ) : Type 0 where
+  pub width : widthAllowed (r .width) ≡ true
+  pub few : blocks ≤ 15
+  pub roots-long : roots ≡ rootsLength (r .width)
+  pub choices-long : choices ≡ columnLength blocks
+  pub table-long : table ≡ tableLength blocks
+  pub correction-long : correction ≡ correctionLength (r .width) blocks
+
 pub start-fits : (r : Record) (batch blocks roots choices table correction : ℕ) → isDone (firstOf (startOrder r batch blocks roots choices table correction)) ≡ true
-    → (widthAllowed (r .width) ≡ true) × (blocks ≤ 15) × (roots ≡ rootsLength (r .width)) × (choices ≡ columnLength blocks)
-    × (table ≡ tableLength blocks) × (correction ≡ correctionLength (r .width) blocks)
+    → StartTells r blocks roots choices table correction
 start-fits r batch blocks roots choices table correction e =
     let h = all-hold (startOrder r batch blocks roots choices table correction) refl e in
     let blocks-hold = h .1 .1 .1 in
     let lengths = blocks-hold .1 in
-    (h .0, blocks-fit blocks (blocks-hold .0) .1, eqb-true roots _ (lengths .0), eqb-true choices _ (lengths .1 .0), eqb-true table _ (lengths .1 .1 .0), eqb-true correction _ (lengths .1 .1 .1 .0))
+    record {
+      width = h .0;
+      few = blocks-fit blocks (blocks-hold .0) .1;
+      roots-long = eqb-true roots _ (lengths .0);
+      choices-long = eqb-true choices _ (lengths .1 .0);
+      table-long = eqb-true table _ (lengths .1 .1 .0);
+      correction-long = eqb-true correction _ (lengths .1 .1 .1 .0);
+    }
+
+-- the sender's correction
+pub record CorrectTells (r : Record) (blocks siblings delta correction table : ℕ) : Type 0 where
+  pub width : widthAllowed (r .width) ≡ true
+  pub few : blocks ≤ 15
+  pub siblings-long : siblings ≡ siblingsLength
+  pub delta-long : delta ≡ deltaLength
+  pub correction-long : correction ≡ correctionLength (r .width) blocks
+  pub table-long : table ≡ tableLength blocks
 
 pub correct-fits : (r : Record) (batch blocks siblings delta correction table : ℕ) → isDone (firstOf (correctOrder r batch blocks siblings delta correction table)) ≡ true
-    → (widthAllowed (r .width) ≡ true) × (blocks ≤ 15) × (siblings ≡ siblingsLength) × (delta ≡ deltaLength)
-    × (correction ≡ correctionLength (r .width) blocks) × (table ≡ tableLength blocks)
+    → CorrectTells r blocks siblings delta correction table
 correct-fits r batch blocks siblings delta correction table e =
     let h = all-hold (correctOrder r batch blocks siblings delta correction table) refl e in
     let blocks-hold = h .1 .1 .1 in
     let lengths = blocks-hold .1 in
-    (h .0, blocks-fit blocks (blocks-hold .0) .1, eqb-true siblings _ (lengths .0), eqb-true delta _ (lengths .1 .0), eqb-true correction _ (lengths .1 .1 .0), eqb-true table _ (lengths .1 .1 .1 .0))
+    record {
+      width = h .0;
+      few = blocks-fit blocks (blocks-hold .0) .1;
+      siblings-long = eqb-true siblings _ (lengths .0);
+      delta-long = eqb-true delta _ (lengths .1 .0);
+      correction-long = eqb-true correction _ (lengths .1 .1 .0);
+      table-long = eqb-true table _ (lengths .1 .1 .1 .0);
+    }
+
+-- the receiver's answer
+pub record AnswerTells (r : Record) (choices table message pads : ℕ) : Type 0 where
+  pub few : r .blocks ≤ 15
+  pub choices-long : choices ≡ columnLength (r .blocks)
+  pub table-long : table ≡ tableLength (r .blocks)
+  pub message-long : message ≡ checkMessageLength
+  pub pads-long : pads ≡ receiverPadsLength (r .blocks)
 
 pub answer-fits : (r : Record) (choices table message pads : ℕ) → isDone (firstOf (answerOrder r choices table message pads)) ≡ true
-    → (r .blocks ≤ 15) × (choices ≡ columnLength (r .blocks)) × (table ≡ tableLength (r .blocks)) × (message ≡ checkMessageLength)
-    × (pads ≡ receiverPadsLength (r .blocks))
+    → AnswerTells r choices table message pads
 answer-fits r choices table message pads e =
     let h = all-hold (answerOrder r choices table message pads) refl e in
     let blocks-hold = h .1 .1 .1 in
     let lengths = blocks-hold .1 in
-    (blocks-fit (r .blocks) (blocks-hold .0) .1, eqb-true choices _ (lengths .0), eqb-true table _ (lengths .1 .0), eqb-true message _ (lengths .1 .1 .0), eqb-true pads _ (lengths .1 .1 .1 .0))
+    record {
+      few = blocks-fit (r .blocks) (blocks-hold .0) .1;
+      choices-long = eqb-true choices _ (lengths .0);
+      table-long = eqb-true table _ (lengths .1 .0);
+      message-long = eqb-true message _ (lengths .1 .1 .0);
+      pads-long = eqb-true pads _ (lengths .1 .1 .1 .0);
+    }
 
-pub verify-fits : (r : Record) (table delta message pads : ℕ) → AllHold (beforeCheck r table delta message pads)
-    → (r .blocks ≤ 15) × (table ≡ tableLength (r .blocks)) × (delta ≡ deltaLength) × (message ≡ checkMessageLength)
-    × (pads ≡ senderPadsLength (r .blocks))
+-- the sender's verify, before its check
+pub record VerifyTells (r : Record) (table delta message pads : ℕ) : Type 0 where
+  pub few : r .blocks ≤ 15
+  pub table-long : table ≡ tableLength (r .blocks)
+  pub delta-long : delta ≡ deltaLength
+  pub message-long : message ≡ checkMessageLength
+  pub pads-long : pads ≡ senderPadsLength (r .blocks)
+
+pub verify-fits : (r : Record) (table delta message pads : ℕ) → AllHold (beforeCheck r table delta message pads) → VerifyTells r table delta message pads
 verify-fits r table delta message pads h =
     let blocks-hold = h .1 .1 .1 in
     let lengths = blocks-hold .1 in
-    (blocks-fit (r .blocks) (blocks-hold .0) .1, eqb-true table _ (lengths .0), eqb-true delta _ (lengths .1 .0), eqb-true message _ (lengths .1 .1 .0), eqb-true pads _ (lengths .1 .1 .1 .0))
+    record {
+      few = blocks-fit (r .blocks) (blocks-hold .0) .1;
+      table-long = eqb-true table _ (lengths .0);
+      delta-long = eqb-true delta _ (lengths .1 .0);
+      message-long = eqb-true message _ (lengths .1 .1 .0);
+      pads-long = eqb-true pads _ (lengths .1 .1 .1 .0);
+    }

@@ -1,6 +1,6 @@
 -- The record of a session, and in which order each step refuses. Paper 01, 'Steps and their turning away'. Assumes nothing.
 use mathlib.Core.Bool.{Bool, _&&_}
-use mathlib.Core.List.{List, [], _∷_, _++_}
+use mathlib.Core.List.{[], _∷_, _++_}
 use Prim.Native.Nat.{ℕ}
 use lib.Dec.{eqb, leb, ltb}
 use Rattle.sizes.specs.Sizes.{widthAllowed, columnLength, deltaLength, rootsLength, receiverBasePadsLength, senderBasePadsLength, setupMessageLength, siblingsLength, tableLength, correctionLength, checkMessageLength, receiverPadsLength, senderPadsLength}
@@ -47,12 +47,13 @@ blocksAllowed blocks = leb 1 blocks && leb blocks 15
 abbrev pub batchFollows : (last batch : ℕ) → Bool
 batchFollows last batch = ltb 0 batch && ltb last batch
 
--- 5 if a range has any length but the one named
+-- 5 if a byte range, which enters by its length, has any but the one named
 abbrev pub has : (found named : ℕ) → Bool × Answer
 has found named = (eqb found named, Length)
 
--- ---- the setups, and opening: 1, then 5
+-- ---- the setups, and opening a session
 
+-- chooser setup: roots 32 × n bytes, base pads 8,192, message out 8,192. 1, 5
 abbrev pub receiverSetupOrder : (width roots pads message : ℕ) → Order
 receiverSetupOrder width roots pads message =
     (widthAllowed width, Width)
@@ -60,6 +61,7 @@ receiverSetupOrder width roots pads message =
     ∷ has pads receiverBasePadsLength
     ∷ has message setupMessageLength ∷ []
 
+-- keeper setup: D 16, base pads 4,096, message 8,192, kept table out 4,096. 1, 5
 abbrev pub senderSetupOrder : (width delta pads message siblings : ℕ) → Order
 senderSetupOrder width delta pads message siblings =
     (widthAllowed width, Width)
@@ -68,14 +70,15 @@ senderSetupOrder width delta pads message siblings =
     ∷ has message setupMessageLength
     ∷ has siblings siblingsLength ∷ []
 
-abbrev pub openOrder : (width : ℕ) → Order
-openOrder width = (widthAllowed width, Width) ∷ []
+-- opening a session: 1 alone
+abbrev pub sessionOrder : (width : ℕ) → Order
+sessionOrder width = (widthAllowed width, Width) ∷ []
 
 -- ---- the two that open a batch
 
--- 1; 2 unless ready; 3 if the number is 0 or not above the last; 4
-abbrev pub mayOpen : (r : Record) (batch blocks : ℕ) → Order
-mayOpen r batch blocks =
+-- both begin so. 1; 2 unless ready; 3 if the number is 0 or not above the last; 4
+abbrev pub batchOrder : (r : Record) (batch blocks : ℕ) → Order
+batchOrder r batch blocks =
     (widthAllowed (r .width), Width)
     ∷ (eqb (r .stage) stageReady, Stage)
     ∷ (batchFollows (r .last) batch, Batch)
@@ -84,7 +87,7 @@ mayOpen r batch blocks =
 -- chooser start: roots, batch and P; u_0 out L, V out 128 × L, correction out (n-1) × L
 abbrev pub startOrder : (r : Record) (batch blocks roots choices table correction : ℕ) → Order
 startOrder r batch blocks roots choices table correction =
-    mayOpen r batch blocks
+    batchOrder r batch blocks
     ++ (has roots (rootsLength (r .width))
     ∷ has choices (columnLength blocks)
     ∷ has table (tableLength blocks)
@@ -93,7 +96,7 @@ startOrder r batch blocks roots choices table correction =
 -- keeper correction: kept table, D, batch and P, correction; W out. Same checks
 abbrev pub correctOrder : (r : Record) (batch blocks siblings delta correction table : ℕ) → Order
 correctOrder r batch blocks siblings delta correction table =
-    mayOpen r batch blocks
+    batchOrder r batch blocks
     ++ (has siblings siblingsLength
     ∷ has delta deltaLength
     ∷ has correction (correctionLength (r .width) blocks)
@@ -101,9 +104,9 @@ correctOrder r batch blocks siblings delta correction table =
 
 -- ---- the two that end it
 
--- 1; 2 unless open; 3 if last is 0; 4
-abbrev pub mayEnd : (r : Record) → Order
-mayEnd r =
+-- both begin so. 1; 2 unless open; 3 if last is 0; 4
+abbrev pub endOrder : (r : Record) → Order
+endOrder r =
     (widthAllowed (r .width), Width)
     ∷ (eqb (r .stage) stageOpen, Stage)
     ∷ (ltb 0 (r .last), Batch)
@@ -112,7 +115,7 @@ mayEnd r =
 -- chooser answer: key, u_0, V; check message out 1,032, pads out 2,048 × P
 abbrev pub answerOrder : (r : Record) (choices table message pads : ℕ) → Order
 answerOrder r choices table message pads =
-    mayEnd r
+    endOrder r
     ++ (has choices (columnLength (r .blocks))
     ∷ has table (tableLength (r .blocks))
     ∷ has message checkMessageLength
@@ -121,7 +124,7 @@ answerOrder r choices table message pads =
 -- keeper verdict: key, W, D, check message; pads out 4,096 × P. 1, 2, 3, 4, 5 as in the answer
 abbrev pub beforeCheck : (r : Record) (table delta message pads : ℕ) → Order
 beforeCheck r table delta message pads =
-    mayEnd r
+    endOrder r
     ++ (has table (tableLength (r .blocks))
     ∷ has delta deltaLength
     ∷ has message checkMessageLength

@@ -8,7 +8,7 @@ use native.Mathlib.Omega.{arith}
 use lib.Bits.{bitXor, xor-comm, xor-self, xor-shr, xor-block, xor-zero-r}
 use lib.Pow.{pow-lt, shr-shr, field, mod-mod-pow}
 use Rattle.words.specs.Bits.{bitOf}
-use Rattle.words.specs.Xor.{sumTo}
+use Rattle.words.specs.Xor.{_⊕_, sumTo}
 use Rattle.words.proofs.Xor.{digit, bit-lt, bit-xor, bits-scale, scale-xor, xor-assoc, xor-swap, xor-cancel}
 use Rattle.words.proofs.Sums.{zero-bit}
 use Rattle.tree.specs.Tree.{sumBelow}
@@ -38,11 +38,11 @@ one-bit b h = ap (λ (x : ℕ). x % 2) (div-eq-of-lt (pow-lt {i = 0} {j = b} h))
 -- ---- the numbers of the leaves below a sibling
 
 -- d's first bits are the sibling's number with the last bit turned
-beside-path : (p q : ℕ) → q < 2 → bitXor (2 * p + (1 - q)) (2 * p + q) ≡ 1
+beside-path : (p q : ℕ) → q < 2 → (2 * p + (1 - q)) ⊕ (2 * p + q) ≡ 1
 beside-path p q h =
     ap₂ bitXor (turn (1 - q)) (turn q)
     ∙ xor-block 1 p p (1 - q) q (omega arith) h
-    ∙ ap₂ (λ (x y : ℕ). x * 2 ^ 1 + y) (xor-self p) (digit (λ (q : ℕ). bitXor (1 - q) q ≡ 1) refl refl q h)
+    ∙ ap₂ (λ (x y : ℕ). x * 2 ^ 1 + y) (xor-self p) (digit (λ (q : ℕ). (1 - q) ⊕ q ≡ 1) refl refl q h)
   where
     turn : (r : ℕ) → 2 * p + r ≡ p * 2 ^ 1 + r
     turn r = omega arith
@@ -55,9 +55,9 @@ path-next k d l h lt =
 
 -- so a leaf y below the sibling of level l has bit k - 1 - l of y ⊕ d, and no higher one
 leaf-bit : (k d l b y : ℕ) → d < 2 ^ k → l < k → k - 1 - l ≤ b → y / 2 ^ (k - 1 - l) ≡ siblingNumber k d l
-    → bitOf (bitXor y d) b ≡ bitOf 1 (b - (k - 1 - l))
+    → bitOf (y ⊕ d) b ≡ bitOf 1 (b - (k - 1 - l))
 leaf-bit k d l b y h lt le q =
-    high-bits (bitXor y d) (k - 1 - l) b le
+    high-bits (y ⊕ d) (k - 1 - l) b le
     ∙ ap (λ (x : ℕ). bitOf x (b - (k - 1 - l)))
     (xor-shr y d (k - 1 - l) ∙ ap₂ bitXor q (path-next k d l h lt) ∙ beside-path (pathNumber k d l) (pathBit k d l) (path-bit-lt k d l))
 
@@ -92,13 +92,13 @@ abbrev pub withBit : ℕ → ℕ → (ℕ → List ℕ) → (List ℕ → ℕ) �
 withBit k b node g l = sumBelow (k - 1 - l) (node l) 0 (λ y m. bitOf y b * g m)
 
 abbrev pub counted : ℕ → ℕ → ℕ → (ℕ → List ℕ) → (List ℕ → ℕ) → ℕ → ℕ
-counted k d b node g l = sumBelow (k - 1 - l) (node l) (siblingNumber k d l) (λ y m. bitOf (bitXor y d) b * g m)
+counted k d b node g l = sumBelow (k - 1 - l) (node l) (siblingNumber k d l) (λ y m. bitOf (y ⊕ d) b * g m)
 
 module _ (k d b : ℕ) (node : ℕ → List ℕ) (g : List ℕ → ℕ) (h : d < 2 ^ k) where
   -- from the sibling's own bit on, all leaves have the bit or none
   from-own : (l : ℕ) → l < k → k - 1 - l ≤ b → counted k d b node g l ≡ bitOf 1 (b - (k - 1 - l)) * allOf k node g l
   from-own l lt le =
-      sum-same (k - 1 - l) (node l) (siblingNumber k d l) (λ y m. bitOf (bitXor y d) b * g m) (λ y m. bitOf 1 (b - (k - 1 - l)) * g m)
+      sum-same (k - 1 - l) (node l) (siblingNumber k d l) (λ y m. bitOf (y ⊕ d) b * g m) (λ y m. bitOf 1 (b - (k - 1 - l)) * g m)
       (λ y m q. ap (λ (x : ℕ). x * g m) (leaf-bit k d l b y h lt le q))
       ∙ sum-times (k - 1 - l) (node l) (siblingNumber k d l) (bitOf 1 (b - (k - 1 - l))) (λ y m. g m) (bit-lt 1 (b - (k - 1 - l)))
       ∙ ap (λ (x : ℕ). bitOf 1 (b - (k - 1 - l)) * x) (sum-number (k - 1 - l) (node l) (siblingNumber k d l) 0 g)
@@ -114,10 +114,10 @@ module _ (k d b : ℕ) (node : ℕ → List ℕ) (g : List ℕ → ℕ) (h : d <
       let none : b - (k - 1 - l) ≡ 0 = omega arith in
       from-own l lt (omega arith) ∙ ap (λ (i : ℕ). bitOf 1 i * allOf k node g l) none ∙ one-mul (allOf k node g l)
 
-  pub counted-below : (l : ℕ) → b < k - 1 - l → counted k d b node g l ≡ bitXor (withBit k b node g l) (bitOf d b * allOf k node g l)
+  pub counted-below : (l : ℕ) → b < k - 1 - l → counted k d b node g l ≡ withBit k b node g l ⊕ bitOf d b * allOf k node g l
   counted-below l lt =
-      sum-same (k - 1 - l) (node l) (siblingNumber k d l) (λ y m. bitOf (bitXor y d) b * g m)
-      (λ y m. bitXor (bitOf y b * g m) (bitOf d b * g m))
+      sum-same (k - 1 - l) (node l) (siblingNumber k d l) (λ y m. bitOf (y ⊕ d) b * g m)
+      (λ y m. bitOf y b * g m ⊕ bitOf d b * g m)
       (λ y m q.
       ap (λ (x : ℕ). x * g m) (bit-xor y d b) ∙ bits-scale (g m) (bitOf y b) (bitOf d b) (bit-lt y b) (bit-lt d b))
       ∙ sum-xor (k - 1 - l) (node l) (siblingNumber k d l) (λ y m. bitOf y b * g m) (λ y m. bitOf d b * g m)
@@ -129,7 +129,7 @@ module _ (k d b : ℕ) (node : ℕ → List ℕ) (g : List ℕ → ℕ) (h : d <
 
   -- those before the column's own
   before-own : (l : ℕ) → l + b < k
-      → sumTo l (counted k d b node g) ≡ bitXor (sumTo l (withBit k b node g)) (bitOf d b * sumTo l (allOf k node g))
+      → sumTo l (counted k d b node g) ≡ sumTo l (withBit k b node g) ⊕ bitOf d b * sumTo l (allOf k node g)
   unfolding sumTo
   before-own zero lt = sym (ap (bitXor 0) (mul-zero (bitOf d b)))
   before-own (suc l) lt =
@@ -137,26 +137,26 @@ module _ (k d b : ℕ) (node : ℕ → List ℕ) (g : List ℕ → ℕ) (h : d <
       let some : ℕ = sumTo l (withBit k b node g) in
       ap₂ bitXor (before-own l (omega arith)) (counted-below l (omega arith))
       ∙ xor-swap some (bitOf d b * all) (withBit k b node g l) (bitOf d b * allOf k node g l)
-      ∙ ap (bitXor (bitXor some (withBit k b node g l))) (sym (scale-xor (bitOf d b) all (allOf k node g l) (bit-lt d b)))
+      ∙ ap (bitXor (some ⊕ withBit k b node g l)) (sym (scale-xor (bitOf d b) all (allOf k node g l) (bit-lt d b)))
 
   -- its own, level l. The column x had those with bit b so far, u the correction and all so far: u is added where d has no bit b, then what
   -- a walk adds to both, then u once more
-  pub own-level : (l x u correction : ℕ) → l + b + 1 ≡ k → x ≡ sumTo l (withBit k b node g) → u ≡ bitXor correction (sumTo l (allOf k node g))
-      → bitXor (bitXor (bitXor x ((1 - bitOf d b) * u)) (withBit k b node g l)) (bitXor u (allOf k node g l))
-      ≡ bitXor (sumTo (suc l) (counted k d b node g)) (bitOf d b * correction)
+  pub own-level : (l x u correction : ℕ) → l + b + 1 ≡ k → x ≡ sumTo l (withBit k b node g) → u ≡ correction ⊕ sumTo l (allOf k node g)
+      → x ⊕ (1 - bitOf d b) * u ⊕ withBit k b node g l ⊕ (u ⊕ allOf k node g l)
+      ≡ sumTo (suc l) (counted k d b node g) ⊕ bitOf d b * correction
   unfolding sumTo
   own-level l x u correction e qx qu =
-      ap (λ (y : ℕ). bitXor y (bitXor u here))
-      (ap (bitXor (bitXor x ((1 - p) * u))) (no-leaf (k - 1 - l) b (node l) g (omega arith)) ∙ xor-zero-r (bitXor x ((1 - p) * u)))
+      ap (λ (y : ℕ). y ⊕ (u ⊕ here))
+      (ap (bitXor (x ⊕ (1 - p) * u)) (no-leaf (k - 1 - l) b (node l) g (omega arith)) ∙ xor-zero-r (x ⊕ (1 - p) * u))
       ∙ settle p x u here (bit-lt d b)
-      ∙ ap₂ (λ (y z : ℕ). bitXor (bitXor y (p * z)) here) qx (qu ∙ xor-comm correction all)
-      ∙ ap (λ (y : ℕ). bitXor (bitXor some y) here) (scale-xor p all correction (bit-lt d b))
-      ∙ ap (λ (y : ℕ). bitXor y here)
-      (sym (xor-assoc some (p * all) (p * correction)) ∙ ap (λ (y : ℕ). bitXor y (p * correction)) (sym (before-own l (omega arith))))
+      ∙ ap₂ (λ (y z : ℕ). y ⊕ p * z ⊕ here) qx (qu ∙ xor-comm correction all)
+      ∙ ap (λ (y : ℕ). some ⊕ y ⊕ here) (scale-xor p all correction (bit-lt d b))
+      ∙ ap (λ (y : ℕ). y ⊕ here)
+      (sym (xor-assoc some (p * all) (p * correction)) ∙ ap (λ (y : ℕ). y ⊕ p * correction) (sym (before-own l (omega arith))))
       ∙ xor-assoc sum (p * correction) here
       ∙ ap (bitXor sum) (xor-comm (p * correction) here)
       ∙ sym (xor-assoc sum here (p * correction))
-      ∙ ap (λ (y : ℕ). bitXor (bitXor sum y) (p * correction)) (sym (counted-own l (omega arith) (omega arith)))
+      ∙ ap (λ (y : ℕ). sum ⊕ y ⊕ p * correction) (sym (counted-own l (omega arith) (omega arith)))
     where
       p : ℕ
       p = bitOf d b
@@ -175,16 +175,16 @@ module _ (k d b : ℕ) (node : ℕ → List ℕ) (g : List ℕ → ℕ) (h : d <
       sum = sumTo l (counted k d b node g)
 
       -- adding u on the other side and then everywhere leaves it where d has bit b
-      settle : (p x u t : ℕ) → p < 2 → bitXor (bitXor x ((1 - p) * u)) (bitXor u t) ≡ bitXor (bitXor x (p * u)) t
+      settle : (p x u t : ℕ) → p < 2 → x ⊕ (1 - p) * u ⊕ (u ⊕ t) ≡ x ⊕ p * u ⊕ t
       settle p x u t lt =
-          digit (λ (p : ℕ). bitXor (bitXor x ((1 - p) * u)) (bitXor u t) ≡ bitXor (bitXor x (p * u)) t)
-          (ap (λ (y : ℕ). bitXor (bitXor x y) (bitXor u t)) (one-mul u)
-          ∙ xor-assoc x u (bitXor u t)
+          digit (λ (p : ℕ). x ⊕ (1 - p) * u ⊕ (u ⊕ t) ≡ x ⊕ p * u ⊕ t)
+          (ap (λ (y : ℕ). x ⊕ y ⊕ (u ⊕ t)) (one-mul u)
+          ∙ xor-assoc x u (u ⊕ t)
           ∙ ap (bitXor x) (xor-cancel u t)
-          ∙ sym (ap (λ (y : ℕ). bitXor y t) (ap (bitXor x) (zero-mul u) ∙ xor-zero-r x)))
-          (ap (λ (y : ℕ). bitXor y (bitXor u t)) (ap (bitXor x) (zero-mul u) ∙ xor-zero-r x)
+          ∙ sym (ap (λ (y : ℕ). y ⊕ t) (ap (bitXor x) (zero-mul u) ∙ xor-zero-r x)))
+          (ap (λ (y : ℕ). y ⊕ (u ⊕ t)) (ap (bitXor x) (zero-mul u) ∙ xor-zero-r x)
           ∙ sym (xor-assoc x u t)
-          ∙ ap (λ (y : ℕ). bitXor (bitXor x y) t) (sym (one-mul u))) p lt
+          ∙ ap (λ (y : ℕ). x ⊕ y ⊕ t) (sym (one-mul u))) p lt
 
   -- the levels after it add nothing
   pub after-own : (l : ℕ) → l < k → k < l + b + 1 → (counted k d b node g l ≡ 0) × (withBit k b node g l ≡ 0)

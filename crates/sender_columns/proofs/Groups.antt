@@ -21,7 +21,7 @@ use Rattle.tree.specs.Sides.{sidesOf}
 use Rattle.tree.proofs.Sides.{sides-at}
 use Rattle.columns.specs.Columns.{besideAt, senderColumn, treeCorrection}
 use Rattle.columns.proofs.Honest.{delta-lt}
-use Rattle.sender_columns.specs.Lanes.{SidesAre, LaneHas}
+use Rattle.sender_columns.specs.FourTrees.{SidesAre, LaneHas}
 
 -- the lanes of a list's first words
 pub lanes-front : (l len : ℕ) (ys zs : List ℕ) → len % 4 ≡ 0 → l < 4 → length ys ≡ len → laneBytes l (len / 4) (ys ++ zs) ≡ laneBytes l (len / 4) ys
@@ -67,10 +67,10 @@ zero-lanes n l u four zeros x lt =
     ∙ bytes-zero 4 (x % 4)
 
 -- one tree more
-pub lanes-more : (n c : ℕ) (f : ℕ → List ℕ) (u u′ : List ℕ) → c < 4
+pub lanes-loaded : (n c : ℕ) (f : ℕ → List ℕ) (u u′ : List ℕ) → c < 4
     → ((m : ℕ) → m < 4 → (m ≡ c → ⊥) → laneBytes m (n / 4) u′ ≡ laneBytes m (n / 4) u)
     → LaneHas n c (f c) u′ → ((l : ℕ) → l < c → LaneHas n l (f l) u) → (l : ℕ) → l < c + 1 → LaneHas n l (f l) u′
-lanes-more n c f u u′ low kept new had l lt = here (ℕ-discrete l c)
+lanes-loaded n c f u u′ low kept new had l lt = here (ℕ-discrete l c)
   where
     here : Dec (l ≡ c) → LaneHas n l (f l) u′
     here (yes e) = rw e new

@@ -1,5 +1,5 @@
 -- The laws that other crates cite.
 pub mod Beside
-pub mod Reached
+pub mod LevelsAdded
 pub mod Masked
 pub mod Groups

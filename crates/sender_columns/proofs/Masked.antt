@@ -6,7 +6,7 @@ use native.Mathlib.Nat.{one-mul}
 use native.Mathlib.Omega.{arith}
 use lib.Bits.{bitXor, bitAnd}
 use lib.ListN.{length, getD}
-use Rattle.words.specs.Xor.{xorEach}
+use Rattle.words.specs.Xor.{_⊕_, xorEach}
 use Rattle.words.proofs.Below.{below}
 use Rattle.words.proofs.Xor.{and-bit}
 use Rattle.words.proofs.Lists.{xorEach-cong}
@@ -19,7 +19,7 @@ masked u masks i = bitAnd (getD u i 0) (getD masks (i % 4) 0)
 
 -- what is read and masked at a place of lane j, where the words from n on are as they were
 pub masked-at : (l m u masks : List ℕ) (n at j : ℕ) → n ≤ at → at % 4 ≡ j → Added l m (masked u masks) n
-    → bitXor (getD m at 0) (bitAnd (getD u at 0) (getD masks j 0)) ≡ bitXor (getD l at 0) (masked u masks at)
+    → getD m at 0 ⊕ bitAnd (getD u at 0) (getD masks j 0) ≡ getD l at 0 ⊕ masked u masks at
 masked-at l m u masks n at j le lane a =
     ap₂ bitXor (a .rest at le) (ap (λ (x : ℕ). bitAnd (getD u at 0) (getD masks x 0)) (sym lane))
 

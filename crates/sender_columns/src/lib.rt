@@ -8,12 +8,13 @@ ghost use lib.ListN.{length, getD};
 ghost use Rattle.words.specs.Bytes.{part, concat};
 ghost use Rattle.words.specs.Lanes.{laneBytes};
 ghost use Rattle.words.specs.Xor.{xorEach};
-ghost use Rattle.tree.specs.Lanes.{uWord};
+ghost use Rattle.tree.specs.WalkWords.{uWord};
 ghost use Rattle.tree.specs.Layout.{treePart};
 ghost use Rattle.tree.specs.Sides.{sidesOf, Sides, TreesFit};
 ghost use Rattle.tree.specs.Streams.{byteOf, wordOf};
 ghost use Rattle.columns.specs.Columns.{senderColumn, senderTable, treeCorrection};
-ghost use Rattle.sender_columns.specs.Lanes.{SidesAre, SenderLanes, WorkFits, LaneHas, levelAdded};
+ghost use Rattle.columns.specs.Room.{ColumnFits, WorkFits};
+ghost use Rattle.sender_columns.specs.FourTrees.{PathsFit, TableFits, FourFit, SidesAre, SenderLanes, LaneHas, levelAdded};
 
 // Adds u to v in the lanes whose side is 1.
 fn add_where(v: &mut [u32], u: &[u32], sides: [u8; 4])
@@ -58,7 +59,7 @@ fn add_level(
     let at = r * u.len();
     let end = at + u.len();
     add_where(&mut v[at..end], u, tree::side::of_four(k, level, sides));
-    tree::walk(&tree::nodes_at(s, 32 * level), r, stream, u, v);
+    tree::walk(stream, r, &tree::nodes_at(s, 32 * level), u, v);
     add_where(&mut v[at..end], u, [1; 4]);
 }
 
@@ -76,7 +77,7 @@ fn add_levels(k: usize, stream: Stream, sides: &[u8], s: &[u32], u: &mut [u32], 
 }
 
 // Fills lane l of t from s.
-fn load_lane(t: &mut [u32], s: &[u8], l: usize)
+fn load_lane(t: &mut [u32], l: usize, s: &[u8])
     requires { ⌜ (l < 4) × (length (now t) % 4 ≡ 0) × (length (now s) ≡ length (now t)) ⌝ }
     ensures { λ _. ⌜ laneBytes l (length (now (t .entry)) / 4) (now (t .exit)) ≡ now (s .entry) ⌝ }
     ensures { λ _. ⌜ ((m : ℕ) → m < 4 → (m ≡ l → ⊥) → laneBytes m (length (now (t .entry)) / 4) (now (t .exit)) ≡ laneBytes m (length (now (t .entry)) / 4) (now (t .entry))) ⌝ }
@@ -98,7 +99,7 @@ fn load_correction(i: usize, correction: &[u8], u: &mut [u32], l: usize)
     if i > 0 {
         let end = i * u.len();
         let at = end - u.len();
-        load_lane(u, &correction[at..end], l);
+        load_lane(u, l, &correction[at..end]);
     }
 }
 
@@ -133,8 +134,8 @@ fn load_corrections(i: usize, correction: &[u8], u: &mut [u32])
 fn four_trees(
     i: usize,
     k: usize,
-    len: usize,
     stream: Stream,
+    len: usize,
     sides: &[u8],
     siblings: &[u8],
     correction: &[u8],
@@ -143,8 +144,8 @@ fn four_trees(
     v: &mut [u32],
     table: &mut [u8],
 )
-    requires { ⌜ (k ≤ 8) × (length (now sides) ≡ 4 * k) × Sides (now sides) × (length (now siblings) ≡ 4 * (32 * k)) × (i ≤ 128) × ((i + 3) * len ≤ length (now correction)) × (length (now table) ≡ 4 * (k * len)) ⌝ }
-    requires { ⌜ WorkFits k len (now s) (now u) (now v) ⌝ }
+    requires { ⌜ PathsFit 4 k (now sides) (now siblings) × FourFit i k len (now correction) (now table) ⌝ }
+    requires { ⌜ (length (now s) ≡ 32 * k) × WorkFits k len (now u) (now v) ⌝ }
     ensures { λ _. ⌜ ((d : ℕ → ℕ) → SidesAre k (now (sides .entry)) d → now (table .exit) ≡ concat 4 (λ j. concat k (senderColumn k (byteOf stream) len (treePart k 32 j (now (siblings .entry))) (d j) (treeCorrection len (now (correction .entry)) (i + j))))) ⌝ }
 {
     words::clear(u);
@@ -159,8 +160,8 @@ fn four_trees(
 fn all_trees(
     n: usize,
     k: usize,
-    len: usize,
     stream: Stream,
+    len: usize,
     sides: &[u8],
     siblings: &[u8],
     correction: &[u8],
@@ -169,8 +170,8 @@ fn all_trees(
     v: &mut [u32],
     table: &mut [u8],
 )
-    requires { ⌜ TreesFit n k × (length (now sides) ≡ n * k) × Sides (now sides) × (length (now siblings) ≡ n * (32 * k)) × (length (now correction) ≡ (n - 1) * len) × (length (now table) ≡ n * (k * len)) ⌝ }
-    requires { ⌜ WorkFits k len (now s) (now u) (now v) ⌝ }
+    requires { ⌜ TreesFit n k × PathsFit n k (now sides) (now siblings) × TableFits n k len (now correction) (now table) ⌝ }
+    requires { ⌜ (length (now s) ≡ 32 * k) × WorkFits k len (now u) (now v) ⌝ }
     ensures { λ _. ⌜ ((delta : List ℕ) → now (sides .entry) ≡ sidesOf (n * k) k delta → now (table .exit) ≡ senderTable n k (byteOf stream) len (now (siblings .entry)) delta (treeCorrection len (now (correction .entry)))) ⌝ }
 {
     let size = 32 * k;
@@ -187,8 +188,8 @@ fn all_trees(
         four_trees(
             i,
             k,
-            len,
             stream,
+            len,
             &sides[first..last],
             &siblings[from..to],
             correction,
@@ -205,15 +206,15 @@ fn all_trees(
 fn all_columns(
     n: usize,
     k: usize,
-    len: usize,
     stream: Stream,
+    len: usize,
     sides: &[u8],
     siblings: &[u8],
     correction: &[u8],
     table: &mut [u8],
 )
-    requires { ⌜ TreesFit n k × (length (now sides) ≡ n * k) × Sides (now sides) × (length (now siblings) ≡ n * (32 * k)) × (length (now correction) ≡ (n - 1) * len) × (length (now table) ≡ n * (k * len)) ⌝ }
-    requires { ⌜ (0 < len) × (len ≤ 128) × (len % 8 ≡ 0) ⌝ }
+    requires { ⌜ TreesFit n k × PathsFit n k (now sides) (now siblings) × TableFits n k len (now correction) (now table) ⌝ }
+    requires { ⌜ ColumnFits len ⌝ }
     ensures { λ _. ⌜ ((delta : List ℕ) → now (sides .entry) ≡ sidesOf (n * k) k delta → now (table .exit) ≡ senderTable n k (byteOf stream) len (now (siblings .entry)) delta (treeCorrection len (now (correction .entry)))) ⌝ }
 {
     let size = 32 * k;
@@ -225,8 +226,8 @@ fn all_columns(
     all_trees(
         n,
         k,
-        len,
         stream,
+        len,
         sides,
         siblings,
         correction,
@@ -241,15 +242,15 @@ fn all_columns(
 pub fn correct(
     n: usize,
     k: usize,
-    len: usize,
     stream: Stream,
+    len: usize,
     siblings: &[u8],
     delta: &[u8],
     correction: &[u8],
     table: &mut [u8],
 )
-    requires { ⌜ TreesFit n k × (n * k ≤ 8 * length (now delta)) × (length (now siblings) ≡ n * (32 * k)) × (length (now correction) ≡ (n - 1) * len) × (length (now table) ≡ n * (k * len)) ⌝ }
-    requires { ⌜ (0 < len) × (len ≤ 128) × (len % 8 ≡ 0) ⌝ }
+    requires { ⌜ TreesFit n k × (n * k ≤ 8 * length (now delta)) × (length (now siblings) ≡ n * (32 * k)) × TableFits n k len (now correction) (now table) ⌝ }
+    requires { ⌜ ColumnFits len ⌝ }
     ensures { λ _. ⌜ now (table .exit) ≡ senderTable n k (byteOf stream) len (now (siblings .entry)) (now (delta .entry)) (treeCorrection len (now (correction .entry))) ⌝ }
 {
     let transfers = n * k;
@@ -258,8 +259,8 @@ pub fn correct(
     all_columns(
         n,
         k,
-        len,
         stream,
+        len,
         &sides[0..transfers],
         siblings,
         correction,

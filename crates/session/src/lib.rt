@@ -2,6 +2,9 @@
 use answer::Answer;
 use rules::Record;
 use tree::Stream;
+ghost use mathlib.Core.Path.{_≡_};
+ghost use Rattle.tree.specs.Tree.{streamByte};
+ghost use Rattle.tree.specs.Streams.{byteOf};
 ghost use Rattle.session.specs.Steps.{OpenSession, ReceiverStart, SenderCorrect, ReceiverAnswer, SenderVerify};
 
 // What a step gives back: its answer, and the record after it.
@@ -21,6 +24,13 @@ pub fn open(r: Record, width: u32) -> Stepped
     } else {
         Stepped { answer, record: r }
     }
+}
+
+// What the streams of a batch are drawn by: of each leaf, the stream of that batch.
+fn stream_of(batch: u32) -> Stream
+    ensures { λ x. ⌜ byteOf x ≡ streamByte batch ⌝ }
+{
+    Stream { batch }
 }
 
 // The receiver's start: choices, table and correction of a new batch.
@@ -49,7 +59,7 @@ pub fn receiver_start(
         receiver_columns::start(
             n,
             r.width as usize,
-            Stream { batch },
+            stream_of(batch),
             roots,
             choices,
             table,
@@ -89,8 +99,8 @@ pub fn sender_correct(
         sender_columns::correct(
             n,
             r.width as usize,
+            stream_of(batch),
             len,
-            Stream { batch },
             siblings,
             delta,
             correction,
@@ -117,7 +127,7 @@ pub fn receiver_answer(
     let answer = orders::receiver_answer(r, choices.len(), table.len(), message.len(), pads.len());
     if answer::is_done(answer) {
         consistency::write_message(sizes::COLUMNS, key, choices, table, message);
-        pads::receiver_pads(r.last as u64, r.blocks as usize, table, pads);
+        pads::receiver_pads(r.blocks as usize, r.last as u64, table, pads);
         let record = rules::without_batch(r);
         Stepped { answer, record }
     } else {
@@ -139,8 +149,8 @@ pub fn sender_verify(
     let answer = orders::sender_verify(r, table.len(), delta.len(), message.len(), pads.len());
     if answer::is_done(answer) {
         let len = sizes::column_length(r.blocks);
-        if consistency::accepts(sizes::COLUMNS, key, table, delta, message, len) {
-            pads::sender_pads(r.last as u64, r.blocks as usize, table, delta, pads);
+        if consistency::accepts(sizes::COLUMNS, len, key, table, delta, message) {
+            pads::sender_pads(r.blocks as usize, r.last as u64, table, delta, pads);
             let record = rules::without_batch(r);
             Stepped { answer, record }
         } else {

@@ -8,7 +8,7 @@ use lib.Bits.{bitXor, xor-self, xor-zero-r}
 use lib.ListN.{length, getD}
 use lib.Seq.{ext-getD}
 use Rattle.words.specs.Bytes.{part, tabulate, concat}
-use Rattle.words.specs.Xor.{xorList, sumTo}
+use Rattle.words.specs.Xor.{_⊕_, xorList, sumTo}
 use Rattle.words.proofs.Xor.{xor-assoc}
 use Rattle.words.proofs.Lists.{tabulate-length, tabulate-at, xorEach-length, xorEach-at}
 use Rattle.words.proofs.Concat.{place-fits, part-length, concat-same, concat-length, concat-part, concat-at}
@@ -18,8 +18,7 @@ use Rattle.tree.specs.Path.{siblingNode, sideOf}
 use Rattle.tree.proofs.Path.{sibling, sibling-length}
 use Rattle.sizes.specs.Sizes.{treesOf}
 use Rattle.tree.specs.Layout.{rootOf, deltaOf, treePart}
-use Rattle.setup.specs.Setup.{treeMessage, messageOf}
-use Rattle.setup.specs.Setup.{unmasked, nextNode, nodesFound, treeSiblings, siblingsOf, senderBasePads, besidePaths}
+use Rattle.setup.specs.Setup.{treeMessage, messageOf, unmasked, nextNode, nodesFound, treeSiblings, siblingsOf, senderBasePads, besidePaths}
 
 total-length : (root : List ℕ) (l s : ℕ) → length (totalOf root l s) ≡ 32
 unfolding totalOf
@@ -46,7 +45,7 @@ next-is k d root totals t l lt =
     made j m i = sumBelow (l - 1 - i) m 0 (λ y m. getD (childOf (sideOf k d l) m) j 0)
 
     byte : ℕ → ℕ
-    byte j = bitXor (getD totals (32 * l + j) 0) (sumTo l (λ i. made j (part (32 * i) 32 above) i))
+    byte j = getD totals (32 * l + j) 0 ⊕ sumTo l (λ i. made j (part (32 * i) 32 above) i)
 
     node : (i : ℕ) → i < l → part (32 * i) 32 above ≡ siblingNode k root d i
     node i h =
@@ -89,7 +88,7 @@ message-length k root pads =
 
 pub message-at : (k : ℕ) (root pads : List ℕ) (l s j : ℕ) → l < k → s < 2 → j < 32
     → getD (treeMessage k root pads) (64 * l + 32 * s + j) 0
-    ≡ bitXor (getD (totalOf root l s) j 0) (getD (part (64 * l + 32 * s) 32 pads) j 0)
+    ≡ getD (totalOf root l s) j 0 ⊕ getD (part (64 * l + 32 * s) 32 pads) j 0
 unfolding treeMessage masked
 message-at k root pads l s j hl hs hj =
     let e : 64 * l + 32 * s + j ≡ l * 64 + (s * 32 + j) = omega arith in
@@ -99,17 +98,17 @@ message-at k root pads l s j hl hs hj =
     ∙ xorEach-at (totalOf root l s) (λ i. getD (part (64 * l + 32 * s) 32 pads) i 0) j (omega (arith, total-length root l s))
 
 pub unmasked-at : (k : ℕ) (side : ℕ → ℕ) (message pads : List ℕ) (l j : ℕ) → l < k → j < 32
-    → getD (unmasked k side message pads) (32 * l + j) 0
-    ≡ bitXor (getD message (64 * l + 32 * side l + j) 0) (getD pads (32 * l + j) 0)
+    → getD (unmasked k side pads message) (32 * l + j) 0
+    ≡ getD message (64 * l + 32 * side l + j) 0 ⊕ getD pads (32 * l + j) 0
 unfolding unmasked
 unmasked-at k side message pads l j hl hj =
     let e : 32 * l + j ≡ l * 32 + j = omega arith in
-    ap (λ (x : ℕ). getD (unmasked k side message pads) x 0) e
+    ap (λ (x : ℕ). getD (unmasked k side pads message) x 0) e
     ∙ concat-at (λ l. tabulate 32 (byte l)) 32 k (λ l h. tabulate-length 32 (byte l)) l j hl hj
     ∙ tabulate-at 32 (byte l) j hj
   where
     byte : ℕ → ℕ → ℕ
-    byte l j = bitXor (getD message (64 * l + 32 * side l + j) 0) (getD pads (32 * l + j) 0)
+    byte l j = getD message (64 * l + 32 * side l + j) 0 ⊕ getD pads (32 * l + j) 0
 
 -- the pad numbered 1 minus the path bit
 pad : ℕ → ℕ → List ℕ → ℕ → List ℕ
@@ -121,11 +120,11 @@ pad-length k d pads h l lt = part-length (64 * l + 32 * sideOf k d l) 32 pads (o
 
 -- one tree's setup gives the nodes beside the path
 pub honest-tree : (k d : ℕ) (root pads : List ℕ) → 64 * k ≤ length pads
-    → treeSiblings k (sideOf k d) (treeMessage k root pads) (concat k (λ l. part (64 * l + 32 * sideOf k d l) 32 pads))
+    → treeSiblings k (sideOf k d) (concat k (λ l. part (64 * l + 32 * sideOf k d l) 32 pads)) (treeMessage k root pads)
     ≡ concat k (siblingNode k root d)
 unfolding pad
 honest-tree k d root pads h =
-    found-is k d root (unmasked k (sideOf k d) (treeMessage k root pads) (concat k (pad k d pads)))
+    found-is k d root (unmasked k (sideOf k d) (concat k (pad k d pads)) (treeMessage k root pads))
     (λ l j hl hj.
     let e : 32 * l + j ≡ l * 32 + j = omega arith in
     let total : ℕ = getD (totalOf root l (sideOf k d l)) j 0 in
@@ -173,11 +172,11 @@ module _ (n k : ℕ) (delta pads : List ℕ) (long : n * (64 * k) ≤ length pad
 
   pads-part : (i : ℕ) → i < n → treePart k 32 i (senderBasePads n k delta pads) ≡ concat k (pad k (deltaOf k delta i) (treePart k 64 i pads))
   unfolding senderBasePads pad treePads
-  pads-part = concat-part treePads (32 * k) (n) treePads-length
+  pads-part = concat-part treePads (32 * k) n treePads-length
 
   pub senderBasePads-length : length (senderBasePads n k delta pads) ≡ n * (32 * k)
   unfolding senderBasePads pad treePads
-  senderBasePads-length = concat-length treePads (32 * k) (n) treePads-length
+  senderBasePads-length = concat-length treePads (32 * k) n treePads-length
 
 -- the sender, given the receiver's message and, for each base transfer, the receiver's pad numbered 1 minus the path bit, gets the
 -- nodes beside its paths in the receiver's trees
@@ -185,11 +184,11 @@ pub honest-setup : (n k : ℕ) (delta roots pads : List ℕ) → n * (64 * k) �
     → siblingsOf n k delta (senderBasePads n k delta pads) (messageOf n k roots pads) ≡ besidePaths n k delta roots
 unfolding siblingsOf besidePaths pad
 honest-setup n k delta roots pads long =
-    concat-same (n)
-    (λ i. treeSiblings k (side i) (treePart k 64 i (messageOf n k roots pads)) (treePart k 32 i (senderBasePads n k delta pads)))
+    concat-same n
+    (λ i. treeSiblings k (side i) (treePart k 32 i (senderBasePads n k delta pads)) (treePart k 64 i (messageOf n k roots pads)))
     (λ i. concat k (siblingNode k (rootOf roots i) (deltaOf k delta i)))
     (λ i h.
-    ap₂ (treeSiblings k (side i)) (message-part n k roots pads i h) (pads-part n k delta pads long i h)
+    ap₂ (treeSiblings k (side i)) (pads-part n k delta pads long i h) (message-part n k roots pads i h)
     ∙ honest-tree k (deltaOf k delta i) (rootOf roots i) (treePart k 64 i pads) (fits n k pads long i h))
   where
     side : ℕ → ℕ → ℕ
@@ -206,7 +205,7 @@ pads-enough k =
 pub besidePaths-length : (n k : ℕ) (delta roots : List ℕ) → length (besidePaths n k delta roots) ≡ n * (32 * k)
 unfolding besidePaths
 besidePaths-length n k delta roots =
-    concat-length _ (32 * k) (n)
+    concat-length _ (32 * k) n
     (λ i h.
     concat-length (siblingNode k (rootOf roots i) (deltaOf k delta i)) 32 k (λ l h. sibling-length k (rootOf roots i) (deltaOf k delta i) l)
     ∙ mul-comm k 32)

@@ -12,18 +12,18 @@ use lib.Seq.{ext-getD}
 use borrow.Rule.Slice.PartMut.{putMid}
 use Rattle.words.specs.Bytes.{bytes, tabulate, part, concat}
 use Rattle.words.specs.Lanes.{laneBytes}
-use Rattle.words.specs.Xor.{xorEach, xorPart, sumTo}
+use Rattle.words.specs.Xor.{_⊕_, xorEach, xorPart, sumTo}
 use Rattle.words.proofs.Numbers.{bytes-zero}
 use Rattle.words.proofs.Lists.{tabulate-length, tabulate-at, tabulate-same}
 use Rattle.words.proofs.Parts.{xorPart-length, part-added}
 use Rattle.words.proofs.Concat.{place-fits, part-at, part-length, place-part, concat-same, concat-length, concat-part, concat-at}
 use Rattle.words.proofs.Sums.{sumTo-same}
 use Rattle.words.proofs.LaneBytes.{laneBytes-length, laneBytes-at, lane-added-in, lane-added-before, lane-added-after}
-use Rattle.chacha20.specs.Lanes.{keyIn}
+use Rattle.chacha20.specs.FourStates.{keyIn}
 use Rattle.tree.specs.Tree.{childrenOf, childOf, sumBelow}
-use Rattle.tree.specs.Lanes.{totalWord, totalByte}
+use Rattle.tree.specs.WalkWords.{totalWord, totalByte}
 use Rattle.tree.proofs.Sums.{child-byte, sum-same}
-use Rattle.tree.proofs.Lanes.{total-lane, lane-node}
+use Rattle.tree.proofs.WalkWords.{total-lane, lane-node}
 use Rattle.tree.specs.Layout.{treePart}
 use Rattle.setup.specs.Setup.{unmasked, nextNode, nodesFound}
 use Rattle.setup.specs.Found.{foundIn}
@@ -32,17 +32,17 @@ use Rattle.setup.specs.Found.{foundIn}
 
 -- what is unmasked at a level
 abbrev pub levelOf : (ℕ → ℕ) → List ℕ → List ℕ → ℕ → List ℕ
-levelOf side message pads l = tabulate 32 (λ j. bitXor (getD message (64 * l + 32 * side l + j) 0) (getD pads (32 * l + j) 0))
+levelOf side message pads l = tabulate 32 (λ j. getD message (64 * l + 32 * side l + j) 0 ⊕ getD pads (32 * l + j) 0)
 
-pub unmasked-length : (k : ℕ) (side : ℕ → ℕ) (message pads : List ℕ) → length (unmasked k side message pads) ≡ k * 32
+pub unmasked-length : (k : ℕ) (side : ℕ → ℕ) (message pads : List ℕ) → length (unmasked k side pads message) ≡ k * 32
 unfolding unmasked
 unmasked-length k side message pads = concat-length (levelOf side message pads) 32 k (λ l h. tabulate-length 32 _)
 
 -- from the level's parts of the message and of the pads
 pub level-parts : (side : ℕ → ℕ) (message pads : List ℕ) (l m n : ℕ) → m ≡ 64 → n ≡ 32 → side l < 2
-    → tabulate 32 (λ j. bitXor (getD (part (64 * l) m message) (32 * side l + j) 0) (getD (part (32 * l) n pads) j 0)) ≡ levelOf side message pads l
+    → tabulate 32 (λ j. getD (part (64 * l) m message) (32 * side l + j) 0 ⊕ getD (part (32 * l) n pads) j 0) ≡ levelOf side message pads l
 level-parts side message pads l m n em en h =
-    tabulate-same 32 _ (λ j. bitXor (getD message (64 * l + 32 * side l + j) 0) (getD pads (32 * l + j) 0))
+    tabulate-same 32 _ (λ j. getD message (64 * l + 32 * side l + j) 0 ⊕ getD pads (32 * l + j) 0)
     (λ j lt.
     let place : 64 * l + (32 * side l + j) ≡ 64 * l + 32 * side l + j = omega arith in
     ap₂ bitXor
@@ -74,7 +74,7 @@ module _ (side : ℕ → ℕ) (totals : List ℕ) where
 
   -- a byte of the next node: the unmasked total less what those above it make on its side
   node-byte : (l j : ℕ) → j < 32 → side l < 2
-      → getD (nodeAt l) j 0 ≡ bitXor (getD totals (32 * l + j) 0) (madeAt l (64 * l + 32 * side l + j))
+      → getD (nodeAt l) j 0 ≡ getD totals (32 * l + j) 0 ⊕ madeAt l (64 * l + 32 * side l + j)
   unfolding nextNode
   node-byte l j h low =
       tabulate-at 32 _ j h
@@ -93,16 +93,16 @@ module _ (side : ℕ → ℕ) (totals : List ℕ) where
 -- ---- one lane of the walk of four trees: after level l, s has the nodes found so far and the totals of the levels after them, t what
 -- the nodes above level l make at the levels below it
 
-pub record Reached (k : ℕ) (side : ℕ → ℕ) (totals : List ℕ) (i l : ℕ) (s t : List ℕ) : Type 0 where
+pub record LevelsFound (k : ℕ) (side : ℕ → ℕ) (totals : List ℕ) (i l : ℕ) (s t : List ℕ) : Type 0 where
   pub found : (j b : ℕ) → j < l + 1 → b < 32 → getD (laneBytes i (8 * k) s) (32 * j + b) 0 ≡ getD (nodeAt side totals j) b 0
   pub rest : (x : ℕ) → 32 * (l + 1) ≤ x → x < 32 * k → getD (laneBytes i (8 * k) s) x 0 ≡ getD totals x 0
   pub made : (x : ℕ) → 64 * (l + 1) ≤ x → x < 64 * k → getD (laneBytes i (16 * k) t) x 0 ≡ madeAt side totals l x
 
 module _ (k : ℕ) (side : ℕ → ℕ) (low : (l : ℕ) → side l < 2) (totals : List ℕ) (i : ℕ) (hi : i < 4) where
   -- the first node is the total itself
-  pub reached-none : (s t : List ℕ) → laneBytes i (8 * k) s ≡ totals → ((j : ℕ) → getD t j 0 ≡ 0) → Reached k side totals i 0 s t
+  pub found-none : (s t : List ℕ) → laneBytes i (8 * k) s ≡ totals → ((j : ℕ) → getD t j 0 ≡ 0) → LevelsFound k side totals i 0 s t
   unfolding sumTo
-  reached-none s t e zeros =
+  found-none s t e zeros =
       record {
         found = λ j b hj hb. first j b (omega arith) hb;
         rest = λ x lo lt. ap (λ (z : List ℕ). getD z x 0) e;
@@ -121,7 +121,7 @@ module _ (k : ℕ) (side : ℕ → ℕ) (low : (l : ℕ) → side l < 2) (totals
           ∙ ap (λ (j : ℕ). getD (nodeAt side totals j) b 0) (sym z)
 
   -- the node of level l in this lane
-  node-in : (l : ℕ) (s t : List ℕ) → l < k → Reached k side totals i l s t → keyIn i (part (32 * l) 32 s) ≡ nodeAt side totals l
+  node-in : (l : ℕ) (s t : List ℕ) → l < k → LevelsFound k side totals i l s t → keyIn i (part (32 * l) 32 s) ≡ nodeAt side totals l
   node-in l s t h r =
       let bytes : List ℕ = laneBytes i (8 * k) s in
       let long = part-length (32 * l) 32 bytes (omega (arith, laneBytes-length i (8 * k) s)) in
@@ -130,7 +130,7 @@ module _ (k : ℕ) (side : ℕ → ℕ) (low : (l : ℕ) → side l < 2) (totals
       (λ b lt. let hb : b < 32 = omega (arith, long) in part-at (32 * l) 32 bytes b hb ∙ r .found l b (omega arith) hb)
 
   module _ (l : ℕ) (s t s′ t′ sides : List ℕ) (more : l + 1 < k) (ls : length s ≡ 32 * k) (lt : length t ≡ 64 * k)
-      (same : (j : ℕ) → side j ≡ getD sides (i * k + j) 0) (r : Reached k side totals i l s t)
+      (same : (j : ℕ) → side j ≡ getD sides (i * k + j) 0) (r : LevelsFound k side totals i l s t)
       (et : t′ ≡ xorPart t (64 * (l + 1)) (64 * (k - 1 - l)) (totalWord (part (32 * l) 32 s)))
       (es : s′ ≡ xorPart s (32 * (l + 1)) 32 (λ p. getD t′ (64 * (l + 1) + (32 * getD sides (p % 4 * k + (l + 1)) 0 + p)) 0)) where
     -- what the node of level l makes is added below it
@@ -177,8 +177,8 @@ module _ (k : ℕ) (side : ℕ → ℕ) (low : (l : ℕ) → side l < 2) (totals
             ∙ ap (λ (q : ℕ). getD t′ (64 * (l + 1) + (32 * q + (4 * (b / 4) + i))) 0) (sym (same (l + 1)))
             ∙ ap (λ (p : ℕ). getD t′ p 0) place
 
-    pub reached-next : Reached k side totals i (l + 1) s′ t′
-    reached-next =
+    pub found-more : LevelsFound k side totals i (l + 1) s′ t′
+    found-more =
         record {
           found = λ j b hj hb. here j b (decLt j (l + 1)) hj hb;
           rest = λ x lo h.
@@ -201,8 +201,8 @@ module _ (k : ℕ) (side : ℕ → ℕ) (low : (l : ℕ) → side l < 2) (totals
             ∙ ap (λ (j : ℕ). getD (nodeAt side totals j) b 0) (sym last)
 
   -- after the last level all nodes are found
-  pub reached-all : (l : ℕ) (s t : List ℕ) → l + 1 ≡ k → Reached k side totals i l s t → laneBytes i (8 * k) s ≡ nodesFound side totals k
-  reached-all l s t all r =
+  pub found-all : (l : ℕ) (s t : List ℕ) → l + 1 ≡ k → LevelsFound k side totals i l s t → laneBytes i (8 * k) s ≡ nodesFound side totals k
+  found-all l s t all r =
       ext-getD 0 (laneBytes i (8 * k) s) (nodesFound side totals k) (laneBytes-length i (8 * k) s ∙ long ∙ sym (found-length side totals k))
       (λ x h. at x (omega (arith, laneBytes-length i (8 * k) s)))
     where
@@ -277,13 +277,13 @@ four-found k i sides totals xs same =
 
 -- ---- one level of the walk: the totals of the nodes of level l, s, were added to what stands below them in t
 
-abbrev pub Added : ℕ → ℕ → List ℕ → List ℕ → List ℕ → Type 0
-Added k l t s ys =
+abbrev pub TotalsAdded : ℕ → ℕ → List ℕ → List ℕ → List ℕ → Type 0
+TotalsAdded k l t s ys =
     (putMid (64 * (l + 1)) (length t - 64 * (l + 1)) t ys ≡ xorPart t (64 * (l + 1)) (64 * (k - 1 - l)) (totalWord (part (32 * l) 32 s)))
     × (length (putMid (64 * (l + 1)) (length t - 64 * (l + 1)) t ys) ≡ length t)
 
 pub totals-back : (k l : ℕ) (t s ys nodes : List ℕ) → l + 1 < k → length t ≡ 64 * k
-    → ys ≡ xorEach (part (64 * (l + 1)) (length t - 64 * (l + 1)) t) (totalWord nodes) → nodes ≡ part (32 * l) 32 s → Added k l t s ys
+    → ys ≡ xorEach (part (64 * (l + 1)) (length t - 64 * (l + 1)) t) (totalWord nodes) → nodes ≡ part (32 * l) 32 s → TotalsAdded k l t s ys
 totals-back k l t s ys nodes more long walked read =
     let fits : 64 * (l + 1) + 64 * (k - 1 - l) ≡ length t = omega arith in
     let e = part-added (64 * (l + 1)) (length t) (64 * (k - 1 - l)) t ys (totalWord nodes) (sym fits) walked

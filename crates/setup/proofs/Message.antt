@@ -8,15 +8,15 @@ use lib.ListN.{length, getD, take, replicate}
 use lib.Seq.{ext-getD, take-all}
 use Rattle.words.specs.Bytes.{bytes, part, concat}
 use Rattle.words.specs.Lanes.{laneBytes}
-use Rattle.words.specs.Xor.{xorEach, xorList}
+use Rattle.words.specs.Xor.{_⊕_, xorEach, xorList}
 use Rattle.words.proofs.Lists.{tabulate-at, zeros-part, zeros-sum, cut-length, xorEach-length, xorEach-at, xorList-part}
 use Rattle.words.proofs.Concat.{part-at, place-part, concat-same, concat-length, concat-part, concat-parts}
 use Rattle.words.proofs.LaneBytes.{laneBytes-length, laneBytes-at}
-use Rattle.chacha20.specs.Lanes.{keyIn}
+use Rattle.chacha20.specs.FourStates.{keyIn}
 use Rattle.tree.specs.Tree.{childrenOf, childOf, sumBelow, totalOf}
-use Rattle.tree.specs.Lanes.{totalWord, totalByte}
+use Rattle.tree.specs.WalkWords.{totalWord, totalByte}
 use Rattle.tree.proofs.Sums.{child-byte, sum-same}
-use Rattle.tree.proofs.Lanes.{total-lane}
+use Rattle.tree.proofs.WalkWords.{total-lane}
 use Rattle.tree.specs.Layout.{rootOf, treePart}
 use Rattle.setup.specs.Setup.{treeMessage}
 use Rattle.setup.proofs.Honest.{message-length, message-at}
@@ -33,7 +33,7 @@ total-at root l s j h =
 
 -- byte x of the message is byte x of the totals, masked
 pub message-byte : (k : ℕ) (root pads : List ℕ) (x : ℕ) → x < 64 * k
-    → getD (treeMessage k root pads) x 0 ≡ bitXor (totalByte root x) (getD pads x 0)
+    → getD (treeMessage k root pads) x 0 ≡ totalByte root x ⊕ getD pads x 0
 message-byte k root pads x h =
     let l : ℕ = x / 64 in
     let s : ℕ = x % 64 / 32 in
@@ -73,7 +73,7 @@ lane-message k nodes t pads words l hl =
     at : (x : ℕ) → x < 64 * k → getD (xorList bs pads) x 0 ≡ getD (treeMessage k (keyIn l nodes) pads) x 0
     at x h =
         xorEach-at bs (λ i. getD pads i 0) x (omega (arith, size))
-        ∙ ap (λ (b : ℕ). bitXor b (getD pads x 0))
+        ∙ ap (λ (b : ℕ). b ⊕ getD pads x 0)
         (laneBytes-at l (64 * k / 4) t x (omega arith)
         ∙ ap (λ (w : ℕ). getD (bytes 4 w) (x % 4) 0) (words (4 * (x / 4) + l) (omega arith))
         ∙ total-lane nodes l x hl)
@@ -109,11 +109,11 @@ four-lanes k roots pads nodes t loaded words =
         ∙ concat-length (λ l. laneBytes l (64 * k / 4) t) (64 * k) 4 (λ l h. each l)
 
 -- from the parts of four trees that begin at tree i, their messages
-pub four-from : (k i : ℕ) (roots pads : List ℕ)
+pub four-messages-from : (k i : ℕ) (roots pads : List ℕ)
     → concat 4 (λ j. treeMessage k (rootOf (part (i * 32) ((i + 4) * 32 - i * 32) roots) j)
     (treePart k 64 j (part (i * (64 * k)) ((i + 4) * (64 * k) - i * (64 * k)) pads)))
     ≡ concat 4 (λ j. treeMessage k (rootOf roots (i + j)) (treePart k 64 (i + j) pads))
-four-from k i roots pads =
+four-messages-from k i roots pads =
     concat-same 4
     (λ j. treeMessage k (rootOf (part (i * 32) ((i + 4) * 32 - i * 32) roots) j)
     (treePart k 64 j (part (i * (64 * k)) ((i + 4) * (64 * k) - i * (64 * k)) pads)))

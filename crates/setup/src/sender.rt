@@ -1,12 +1,12 @@
 // The sender's siblings. Delta enters as a side for each base transfer, and a side as a mask: never a branch or an address.
 ghost use mathlib.Core.Path.{_≡_};
 ghost use mathlib.Core.List.{List};
-ghost use Prim.Native.Nat.{ℕ, _+_, _-_, _*_, _/_, _%_, _^_, _≤_, _<_};
+ghost use Prim.Native.Nat.{ℕ, _+_, _-_, _*_, _%_, _^_, _≤_, _<_};
 ghost use lib.ListN.{length, getD};
 ghost use Rattle.words.specs.Bytes.{tabulate, part};
 ghost use Rattle.words.specs.Lanes.{laneBytes};
 ghost use Rattle.words.specs.Xor.{_⊕_, xorEach, xorPart};
-ghost use Rattle.tree.specs.Lanes.{totalWord};
+ghost use Rattle.tree.specs.WalkWords.{totalWord};
 ghost use Rattle.sizes.specs.Sizes.{columns};
 ghost use Rattle.setup.specs.Setup.{unmasked, nodesFound, siblingsOf};
 ghost use Rattle.tree.specs.Sides.{sidesOf, Sides, TreesFit};
@@ -30,7 +30,7 @@ fn unmask(out: &mut [u8], totals: &[u8], pad: &[u8], side: u8)
 fn unmask_all(sides: &[u8], pads: &[u8], message: &[u8], siblings: &mut [u8])
     requires { ⌜ (length (now sides) ≤ columns) × Sides (now sides) ⌝ }
     requires { ⌜ (length (now pads) ≡ 32 * length (now sides)) × (length (now message) ≡ 64 * length (now sides)) × (length (now siblings) ≡ 32 * length (now sides)) ⌝ }
-    ensures { λ _. ⌜ now (siblings .exit) ≡ unmasked (length (now (sides .entry))) (λ c. getD (now (sides .entry)) c 0) (now (message .entry)) (now (pads .entry)) ⌝ }
+    ensures { λ _. ⌜ now (siblings .exit) ≡ unmasked (length (now (sides .entry))) (λ c. getD (now (sides .entry)) c 0) (now (pads .entry)) (now (message .entry)) ⌝ }
 {
     let mut c = 0;
     while c < sides.len() {

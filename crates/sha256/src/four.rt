@@ -4,8 +4,7 @@ ghost use mathlib.Core.Path.{_≡_};
 ghost use Prim.Native.Nat.{_+_, _<_};
 ghost use lib.ListN.{length, getD, take};
 ghost use Rattle.words.specs.Bytes.{concat};
-ghost use Rattle.words.specs.Lanes.{lane, putLane};
-ghost use Rattle.words.specs.Lanes.{laned};
+ghost use Rattle.words.specs.Lanes.{lane, putLane, laned};
 ghost use Rattle.sha256.specs.Four.{digests, padWords, wordsOf, workOf, schedules, scheduleIn, fourInLanes, roundsInLanes, digestIn};
 ghost use Rattle.sha256.specs.Pieces.{fourRounds};
 ghost use Rattle.sha256.specs.Sha.{constants, roundAt};
@@ -79,7 +78,7 @@ fn put(t: &mut [u32; 32], l: usize, s: Work)
 }
 
 // Round t in lane l.
-fn round(s: Work, k: &[u32; 64], w: &[u32; 256], t: usize, l: usize) -> Work
+fn round(t: usize, k: &[u32; 64], w: &[u32; 256], l: usize, s: Work) -> Work
     requires { ⌜ (now k ≡ constants) × (t < 64) × (l < 4) ⌝ }
     ensures { λ r. ⌜ r ≡ roundAt t (scheduleIn l (now (w .entry))) s ⌝ }
 {
@@ -87,23 +86,23 @@ fn round(s: Work, k: &[u32; 64], w: &[u32; 256], t: usize, l: usize) -> Work
 }
 
 // Rounds i to i + 3 in lane l.
-fn four_rounds(s: Work, k: &[u32; 64], w: &[u32; 256], i: usize, l: usize) -> Work
+fn four_rounds(i: usize, k: &[u32; 64], w: &[u32; 256], l: usize, s: Work) -> Work
     requires { ⌜ (now k ≡ constants) × (i + 3 < 64) × (l < 4) ⌝ }
     ensures { λ r. ⌜ r ≡ fourRounds i (scheduleIn l (now (w .entry))) s ⌝ }
 {
-    let s1 = round(s, k, w, i, l);
-    let s2 = round(s1, k, w, i + 1, l);
-    let s3 = round(s2, k, w, i + 2, l);
-    round(s3, k, w, i + 3, l)
+    let s1 = round(i, k, w, l, s);
+    let s2 = round(i + 1, k, w, l, s1);
+    let s3 = round(i + 2, k, w, l, s2);
+    round(i + 3, k, w, l, s3)
 }
 
-fn lanes(t: &mut [u32; 32], k: &[u32; 64], w: &[u32; 256], i: usize)
+fn lanes(i: usize, k: &[u32; 64], w: &[u32; 256], t: &mut [u32; 32])
     requires { ⌜ (now k ≡ constants) × (i + 3 < 64) × (length (now t) ≡ 32) ⌝ }
     ensures { λ _. ⌜ now (t .exit) ≡ fourInLanes i (now (w .entry)) (now (t .entry)) ⌝ }
 {
     for l in 0..4usize {
         let s = get(&*t, l);
-        put(&mut *t, l, four_rounds(s, k, w, i, l));
+        put(&mut *t, l, four_rounds(i, k, w, l, s));
     }
 }
 
@@ -154,7 +153,7 @@ fn rounds(k: &[u32; 64], w: &[u32; 256]) -> [u32; 32]
     let mut t = spread(crate::first_value());
     let mut i: usize = 0;
     while i < 64 {
-        lanes(&mut t, k, w, i);
+        lanes(i, k, w, &mut t);
         i += 4;
     }
     t

@@ -8,7 +8,7 @@ use lib.Dec.{eqb}
 unfoldable pub widthAllowed : (k : ℕ) → Bool
 widthAllowed k = eqb k 1 || (eqb k 2 || (eqb k 4 || eqb k 8))
 
--- 128 columns, each with a base transfer of its own; n = 128/k trees
+-- a table has 128 columns, each with a base transfer of its own; there are n = 128/k trees
 abbrev pub columns : ℕ
 columns = 128
 
@@ -17,36 +17,36 @@ treesOf k = columns / k
 
 -- ---- the setups
 
--- D (delta) has a bit for each column
+-- the secret D (delta) has a bit for each column: 16
 abbrev pub deltaLength : ℕ
 deltaLength = columns / 8
 
--- roots: 32 × n
+-- roots, a node for each tree: 32 × n
 abbrev pub rootsLength : (k : ℕ) → ℕ
 rootsLength k = 32 * treesOf k
 
--- base pads: both of each base transfer, and the one that the sender has
+-- base pads: the receiver has both of each base transfer, 8,192, the sender one, 4,096
 abbrev pub receiverBasePadsLength : ℕ
 receiverBasePadsLength = 64 * columns
 
 abbrev pub senderBasePadsLength : ℕ
 senderBasePadsLength = 32 * columns
 
--- the setup message: two masked totals for each base transfer
+-- the setup message, two masked totals for each base transfer: 8,192
 abbrev pub setupMessageLength : ℕ
 setupMessageLength = 64 * columns
 
--- the kept table (siblings): a node for each base transfer
+-- the kept table (siblings), a node for each base transfer: 4,096
 abbrev pub siblingsLength : ℕ
 siblingsLength = 32 * columns
 
--- ---- a batch of P blocks
+-- ---- a batch
 
--- it has one block more, which is spent on the check: a column, as u_0 (choices) is one, has L = 8 × (P+1) bytes
+-- a batch has P blocks, and one more that is spent on the check: a column has L = 8 × (P+1) bytes, and u_0 (choices) is one
 abbrev pub columnLength : (blocks : ℕ) → ℕ
 columnLength blocks = 8 * (blocks + 1)
 
--- V and W (tables): 128 × L
+-- V and W, the tables: 128 × L
 abbrev pub tableLength : (blocks : ℕ) → ℕ
 tableLength blocks = columns * columnLength blocks
 
@@ -54,11 +54,11 @@ tableLength blocks = columns * columnLength blocks
 abbrev pub correctionLength : (k blocks : ℕ) → ℕ
 correctionLength k blocks = (treesOf k - 1) * columnLength blocks
 
--- the check message: the fold of u_0, and of each column
+-- the check message, the fold of u_0 and of each column, 8 bytes each: 1,032
 abbrev pub checkMessageLength : ℕ
 checkMessageLength = 8 * (1 + columns)
 
--- a block has 64 transfers, of which the receiver has one pad each and the sender both
+-- a block has 64 transfers. A pad has 32 bytes: the receiver has one for each transfer, 2,048 × P, the sender two, 4,096 × P
 abbrev pub transfers : (blocks : ℕ) → ℕ
 transfers blocks = 64 * blocks
 

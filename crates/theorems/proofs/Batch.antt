@@ -17,7 +17,7 @@ use Rattle.columns.specs.Columns.{choicesOf, receiverTable, correctionOf, treeC
 use Rattle.columns.proofs.Tables.{uOf-length, receiverColumn-length, receiver-table}
 use Rattle.columns.proofs.Honest.{honest-table}
 use Rattle.pads.specs.Pads.{rowOf}
-use Rattle.pads.proofs.Laws.{row-sum}
+use Rattle.pads.proofs.RowLaws.{row-sum}
 
 module _ (n k : ℕ) (stream : ℕ → List ℕ → ℕ) (len : ℕ) (delta roots : List ℕ) where
   -- the receiver's choices and table, and the sender's table where the siblings are those beside delta's paths in the receiver's trees and

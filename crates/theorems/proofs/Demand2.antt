@@ -3,7 +3,7 @@ use mathlib.Core.Path.{_≡_, sym, ap, ap₂, _∙_, subst}
 use mathlib.Core.Bool.{Bool, true, false, cond}
 use mathlib.Core.Logic.{_⊎_, inl, inr}
 use mathlib.Core.List.{List, [], _∷_, _++_}
-use Prim.Native.Nat.{ℕ, _+_, _-_, _*_, _<_, _≤_}
+use Prim.Native.Nat.{ℕ, _+_, _*_, _<_, _≤_}
 use native.Mathlib.Nat.{mul-comm}
 use native.Mathlib.Omega.{arith}
 use lib.ListN.{length, getD, take, length-append}
@@ -29,9 +29,9 @@ use Rattle.columns.proofs.Tables.{uOf-length, correctionOf-length, receiverTabl
 use Rattle.pads.specs.Pads.{rowOf, padOf, receiverPads, senderPads}
 use Rattle.pads.proofs.Inputs.{pad-length}
 use Rattle.consistency.specs.Message.{checkMessage, accepts}
-use Rattle.consistency.proofs.Laws.{message-length}
+use Rattle.consistency.proofs.MessageLaws.{message-length}
 use Rattle.rules.specs.declared.Record.{Record}
-use Rattle.rules.specs.Orders.{stageReady, stageOpen, withBatch, withoutBatch, has, mayOpen, mayEnd, beforeCheck}
+use Rattle.rules.specs.Orders.{stageReady, stageOpen, withBatch, withoutBatch, has, batchOrder, endOrder, beforeCheck}
 use Rattle.rules.proofs.Allowed.{blocks-allowed, batch-follows}
 use Rattle.session.specs.Steps.{SenderCorrect}
 use Rattle.errors.specs.Errors.{Sent}
@@ -99,14 +99,14 @@ opens r r₁ width batch blocks ready e = record {
 }
 
 -- a batch may be opened, and an open one be ended
-may-open : (r : Record) (width batch blocks : ℕ) → Ready r width → widthAllowed width ≡ true → r .last < batch → 1 ≤ blocks → blocks ≤ 15
-    → AllHold (mayOpen r batch blocks)
-may-open r width batch blocks ready allowed next low high =
+open-batch : (r : Record) (width batch blocks : ℕ) → Ready r width → widthAllowed width ≡ true → r .last < batch → 1 ≤ blocks → blocks ≤ 15
+    → AllHold (batchOrder r batch blocks)
+open-batch r width batch blocks ready allowed next low high =
     (ap widthAllowed (ready .wide) ∙ allowed, (eq-eqb _ _ (ready .ready), (batch-follows (r .last) batch next, (blocks-allowed blocks low high, tt))))
 
-may-end : (r : Record) (width batch blocks : ℕ) → Opened r width batch blocks → widthAllowed width ≡ true → 0 < batch → 1 ≤ blocks → blocks ≤ 15
-    → AllHold (mayEnd r)
-may-end r width batch blocks opened allowed some low high = (
+end-batch : (r : Record) (width batch blocks : ℕ) → Opened r width batch blocks → widthAllowed width ≡ true → 0 < batch → 1 ≤ blocks → blocks ≤ 15
+    → AllHold (endOrder r)
+end-batch r width batch blocks opened allowed some low high = (
   ap widthAllowed (opened .wide) ∙ allowed,
   (
     eq-eqb _ _ (opened .open-now),
@@ -162,8 +162,8 @@ module _ (h : HonestBatch) where
       let wide = h .receiver-ready .wide in
       h .receiver-start .answered
       ∙ done-when _
-      (four-named (mayOpen (h .r) (h .batch) (h .blocks)) _ (rootsLength (h .r .width)) _ len _ (tableLength (h .blocks)) _ (correctionLength (h .r .width) (h .blocks))
-      (may-open (h .r) k (h .batch) (h .blocks) (h .receiver-ready) (h .width-allowed) (h .receiver-next) (h .some-blocks) (h .few-blocks))
+      (four-named (batchOrder (h .r) (h .batch) (h .blocks)) _ (rootsLength (h .r .width)) _ len _ (tableLength (h .blocks)) _ (correctionLength (h .r .width) (h .blocks))
+      (open-batch (h .r) k (h .batch) (h .blocks) (h .receiver-ready) (h .width-allowed) (h .receiver-next) (h .some-blocks) (h .few-blocks))
       (h .roots-length ∙ ap rootsLength (sym wide)) (h .choices-length) (h .v-length)
       (h .correction-length ∙ ap (λ (w : ℕ). correctionLength w (h .blocks)) (sym wide)))
 
@@ -186,8 +186,8 @@ module _ (h : HonestBatch) where
       let wide = h .sender-ready .wide in
       h .sender-correct .answered
       ∙ done-when _
-      (four-named (mayOpen (h .q) (h .batch) (h .blocks)) _ siblingsLength _ deltaLength _ (correctionLength (h .q .width) (h .blocks)) _ (tableLength (h .blocks))
-      (may-open (h .q) k (h .batch) (h .blocks) (h .sender-ready) (h .width-allowed) (h .sender-next) (h .some-blocks) (h .few-blocks))
+      (four-named (batchOrder (h .q) (h .batch) (h .blocks)) _ siblingsLength _ deltaLength _ (correctionLength (h .q .width) (h .blocks)) _ (tableLength (h .blocks))
+      (open-batch (h .q) k (h .batch) (h .blocks) (h .sender-ready) (h .width-allowed) (h .sender-next) (h .some-blocks) (h .few-blocks))
       (ap length siblings-is ∙ besidePaths-length n k (h .delta) (h .roots) ∙ width .single) (h .delta-length)
       (ap length correction-is ∙ correctionOf-length n k stream len (h .roots) ∙ ap (λ (w : ℕ). correctionLength w (h .blocks)) (sym wide)) (h .w-length))
 
@@ -210,8 +210,8 @@ module _ (h : HonestBatch) where
       let same : h .blocks ≡ h .r₁ .blocks = sym (receiver-opened .blocks-are) in
       h .receiver-answer .answered
       ∙ done-when _
-      (four-named (mayEnd (h .r₁)) _ (columnLength blocks) _ (tableLength blocks) _ checkMessageLength _ (receiverPadsLength blocks)
-      (may-end (h .r₁) k (h .batch) (h .blocks) receiver-opened (h .width-allowed) later (h .some-blocks) (h .few-blocks))
+      (four-named (endOrder (h .r₁)) _ (columnLength blocks) _ (tableLength blocks) _ checkMessageLength _ (receiverPadsLength blocks)
+      (end-batch (h .r₁) k (h .batch) (h .blocks) receiver-opened (h .width-allowed) later (h .some-blocks) (h .few-blocks))
       (ap length choices-is ∙ uOf-length k stream len _ ∙ ap columnLength same)
       (ap length v-is ∙ receiverTable-length n k stream len (h .roots) ∙ ap (λ (c : ℕ). c * len) (width .columns) ∙ ap tableLength same)
       (h .message-length) (h .pads-length ∙ ap receiverPadsLength same))
@@ -240,8 +240,8 @@ module _ (h : HonestBatch) where
 
       ends : AllHold asked
       ends =
-          four-named (mayEnd (h .q₁)) _ (tableLength (h .q₁ .blocks)) _ deltaLength _ checkMessageLength _ (senderPadsLength (h .q₁ .blocks))
-          (may-end (h .q₁) k (h .batch) (h .blocks) sender-opened (h .width-allowed) later (h .some-blocks) (h .few-blocks))
+          four-named (endOrder (h .q₁)) _ (tableLength (h .q₁ .blocks)) _ deltaLength _ checkMessageLength _ (senderPadsLength (h .q₁ .blocks))
+          (end-batch (h .q₁) k (h .batch) (h .blocks) sender-opened (h .width-allowed) later (h .some-blocks) (h .few-blocks))
           (ap length w-is ∙ senderTable-length n k stream len _ (h .delta) _ ∙ ap (λ (c : ℕ). c * len) (width .columns) ∙ ap tableLength same) (h .delta-length)
           (ap length message-is ∙ message-length columns len (h .key) _ _) (h .both-pads-length ∙ ap senderPadsLength same)
 

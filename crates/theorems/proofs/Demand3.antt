@@ -3,7 +3,7 @@ use mathlib.Core.Path.{_≡_, refl, sym, ap, ap₂, _∙_, subst}
 use mathlib.Core.Bool.{Bool, true, false, not, _&&_, cond}
 use mathlib.Core.Logic.{_⊎_, inl, inr, _↔_, _≢_}
 use mathlib.Core.List.{List, [], _∷_}
-use Prim.Native.Nat.{ℕ, _+_, _-_, _*_, _<_}
+use Prim.Native.Nat.{ℕ, _+_, _*_, _<_}
 use native.Mathlib.Nat.{zero-mul, one-mul}
 use native.Mathlib.Omega.{arith}
 use lib.Arith.{digits-div}
@@ -26,7 +26,7 @@ use Rattle.setup.proofs.Answers.{receiver-fits}
 use Rattle.columns.specs.Columns.{treeCorrection, senderTable}
 use Rattle.columns.proofs.Tables.{senderTable-length}
 use Rattle.consistency.specs.Message.{sidesEqual, accepts}
-use Rattle.consistency.proofs.Every.{every-of, every-is}
+use Rattle.words.proofs.Lists.{every-of, every-is}
 use Rattle.pads.specs.Pads.{senderPads}
 use Rattle.rules.specs.Orders.{withoutBatch, closed, beforeCheck}
 use Rattle.rules.proofs.Fits.{correct-fits, verify-fits}
@@ -60,7 +60,7 @@ module _ (s : Sent) (delta : List ℕ) (run : Run s delta) where
   correction-fits : length (s .correction) ≡ correctionLength k (s .blocks)
   correction-fits =
       correct-fits (run .r) (s .batch) (s .blocks) (length (run .siblings′)) (length delta) (length (s .correction)) (length (run .table))
-      (ap isDone (sym (run .sender-correct .answered))) .4
+      (ap isDone (sym (run .sender-correct .answered))) .correction-long
       ∙ ap (λ (w : ℕ). correctionLength w (s .blocks)) (run .same-width)
 
   -- the sender's table is that of the nodes beside the paths
@@ -122,7 +122,7 @@ module _ (s : Sent) (delta : List ℕ) (run : Run s delta) where
 
   decides : Accepts s delta run ⊎ Closes s delta run
   decides =
-      let same = same-blocks (run .q .blocks) (verify-fits (run .q) (length (run .table′)) (length delta) (length (s .message)) (length (run .pads)) hold .1) in
+      let same = same-blocks (run .q .blocks) (verify-fits (run .q) (length (run .table′)) (length delta) (length (s .message)) (length (run .pads)) hold .table-long) in
       decided verdict (ap (λ (blocks : ℕ). accepts columns (columnLength blocks) (s .key) (run .table′) delta (s .message)) (sym same))
       (run .sender-verify .answered ∙ last-decides asked verdict Check hold) same
 

@@ -17,14 +17,18 @@ use Rattle.answer.specs.Answer.{Order, firstOf}
 use Rattle.answer.proofs.Order.{refused-at}
 use Rattle.pads.specs.Pads.{rowOf, padOf, senderPads}
 use Rattle.rules.specs.declared.Record.{Record}
-use Rattle.rules.specs.Orders.{stageReady, stageOpen, blocksAllowed, batchFollows, receiverSetupOrder, senderSetupOrder, openOrder, mayOpen, mayEnd}
+use Rattle.rules.specs.Orders.{stageReady, stageOpen, blocksAllowed, batchFollows, receiverSetupOrder, senderSetupOrder, sessionOrder, batchOrder, endOrder}
 use Rattle.rules.proofs.Allowed.{batch-follows}
 use Rattle.theorems.proofs.Demand2.{given-pad}
 
--- the lengths in numbers: of the setups, of the check message, and of a block's pads
+-- the lengths in numbers: of the setups and of the check message
 pub lengths : (deltaLength ≡ 16) × (receiverBasePadsLength ≡ 8192) × (senderBasePadsLength ≡ 4096) × (setupMessageLength ≡ 8192)
-    × (siblingsLength ≡ 4096) × (checkMessageLength ≡ 1032) × (receiverPadsLength 1 ≡ 2048) × (senderPadsLength 1 ≡ 4096)
-lengths = (refl, refl, refl, refl, refl, refl, refl, refl)
+    × (siblingsLength ≡ 4096) × (checkMessageLength ≡ 1032)
+lengths = (refl, refl, refl, refl, refl, refl)
+
+-- and of both sides' pads: 2,048 × P and 4,096 × P bytes
+pub pads-lengths : (blocks : ℕ) → (receiverPadsLength blocks ≡ 2048 * blocks) × (senderPadsLength blocks ≡ 4096 * blocks)
+pads-lengths blocks = (omega arith, omega arith)
 
 -- P = 15, k = 1: table 16,384, correction 16,256, the sender's pads 61,440 bytes; P = 1, k = 8: correction 240
 pub sizes : (tableLength 15 ≡ 16384) × (correctionLength 1 15 ≡ 16256) × (senderPadsLength 15 ≡ 61440) × (correctionLength 8 1 ≡ 240)
@@ -32,20 +36,20 @@ sizes = (refl, refl, refl, refl)
 
 -- width 3, with whatever else: 1. Of a session's steps, by its record, whatever is asked after it
 pub width-three : (r : Record) (rest : Order) → r .width ≡ 3
-    → ((batch blocks : ℕ) → firstOf (mayOpen r batch blocks ++ rest) ≡ Width) × (firstOf (mayEnd r ++ rest) ≡ Width)
+    → ((batch blocks : ℕ) → firstOf (batchOrder r batch blocks ++ rest) ≡ Width) × (firstOf (endOrder r ++ rest) ≡ Width)
 unfolding widthAllowed
 width-three r rest e = (λ batch blocks. refused-at [] _ (widthAllowed (r .width)) Width tt (ap widthAllowed e), refused-at [] _ (widthAllowed (r .width)) Width tt (ap widthAllowed e))
 
 -- and of the steps that are given one: both setups, and opening
 pub width-three-given : (roots pads message delta siblings : ℕ)
     → (firstOf (receiverSetupOrder 3 roots pads message) ≡ Width) × (firstOf (senderSetupOrder 3 delta pads message siblings) ≡ Width)
-    × (firstOf (openOrder 3) ≡ Width)
+    × (firstOf (sessionOrder 3) ≡ Width)
 unfolding widthAllowed firstOf
 width-three-given roots pads message delta siblings = (refl, refl, refl)
 
 module _ (r : Record) (batch : ℕ) (rest : Order) (allowed : widthAllowed (r .width) ≡ true) (ready : r .stage ≡ stageReady) where
   -- last 4,294,967,295: each start gets 3
-  pub last-of-all : (blocks : ℕ) → r .last ≡ 4294967295 → batch < 2 ^ 32 → firstOf (mayOpen r batch blocks ++ rest) ≡ Batch
+  pub last-of-all : (blocks : ℕ) → r .last ≡ 4294967295 → batch < 2 ^ 32 → firstOf (batchOrder r batch blocks ++ rest) ≡ Batch
   last-of-all blocks e h =
       refused-at ((widthAllowed (r .width), Width) ∷ (eqb (r .stage) stageReady, Stage) ∷ []) ((blocksAllowed blocks, Blocks) ∷ rest)
       (batchFollows (r .last) batch) Batch (allowed, (eq-eqb _ _ ready, tt))
@@ -56,17 +60,17 @@ module _ (r : Record) (batch : ℕ) (rest : Order) (allowed : widthAllowed (r .w
       not-above false q = refl
 
   -- P 0 or 16: 4, at the start
-  pub blocks-outside : r .last < batch → (firstOf (mayOpen r batch 0 ++ rest) ≡ Blocks) × (firstOf (mayOpen r batch 16 ++ rest) ≡ Blocks)
+  pub blocks-outside : r .last < batch → (firstOf (batchOrder r batch 0 ++ rest) ≡ Blocks) × (firstOf (batchOrder r batch 16 ++ rest) ≡ Blocks)
   blocks-outside next = (outside 0 refl, outside 16 refl)
     where
-      outside : (blocks : ℕ) → blocksAllowed blocks ≡ false → firstOf (mayOpen r batch blocks ++ rest) ≡ Blocks
+      outside : (blocks : ℕ) → blocksAllowed blocks ≡ false → firstOf (batchOrder r batch blocks ++ rest) ≡ Blocks
       outside blocks e =
           refused-at ((widthAllowed (r .width), Width) ∷ (eqb (r .stage) stageReady, Stage) ∷ (batchFollows (r .last) batch, Batch) ∷ []) rest
           (blocksAllowed blocks) Blocks (allowed, (eq-eqb _ _ ready, (batch-follows (r .last) batch next, tt))) e
 
 -- and at the end, on a record that holds them
 pub blocks-outside-end : (r : Record) (rest : Order) → widthAllowed (r .width) ≡ true → r .stage ≡ stageOpen → 0 < r .last
-    → (r .blocks ≡ 0) ⊎ (r .blocks ≡ 16) → firstOf (mayEnd r ++ rest) ≡ Blocks
+    → (r .blocks ≡ 0) ⊎ (r .blocks ≡ 16) → firstOf (endOrder r ++ rest) ≡ Blocks
 blocks-outside-end r rest allowed isOpen some which =
     refused-at ((widthAllowed (r .width), Width) ∷ (eqb (r .stage) stageOpen, Stage) ∷ (ltb 0 (r .last), Batch) ∷ []) rest
     (blocksAllowed (r .blocks)) Blocks (allowed, (eq-eqb _ _ isOpen, (lt-ltb 0 (r .last) some, tt))) (outside which)

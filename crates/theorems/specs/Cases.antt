@@ -8,10 +8,9 @@ use Rattle.words.specs.Bytes.{tabulate}
 use Rattle.words.specs.Bits.{ofBits}
 use Rattle.words.specs.Xor.{_⊕_, xorList, scale}
 use Rattle.gf64.specs.Field.{fold, foldBytes}
-use Rattle.gf64.specs.Check.{columnSide, choiceSide}
-use Rattle.tree.specs.Path.{pathBit, siblingNumber}
+use Rattle.consistency.specs.Message.{columnSide, choiceSide}
+use Rattle.tree.specs.Path.{pathBit, siblingNumber, sideOf}
 use Rattle.tree.specs.Columns.{uAt, receiverAt, senderAt}
-use Rattle.tree.specs.Path.{sideOf}
 
 pub data Case : Type 0 where
   -- a key and words: their fold

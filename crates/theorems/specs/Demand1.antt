@@ -4,6 +4,7 @@ use mathlib.Core.Path.{_≡_}
 use mathlib.Core.Logic.{_≢_}
 use mathlib.Core.List.{List, [], _∷_}
 use Prim.Native.Nat.{ℕ}
+use Rattle.words.specs.Bytes.{Range}
 use Rattle.answer.specs.declared.Answer.{Answer}
 use Rattle.answer.specs.declared.Answer.the-variants.{Done}
 use Rattle.answer.specs.Answer.{whenFailed, Among}
@@ -15,28 +16,32 @@ use Rattle.session.specs.Steps.{OpenSession, ReceiverStart, SenderCorrect, Rece
 -- what a step is lent and may alter: the record of a session, which the setups have not, and the byte ranges out. (A range in is lent to
 -- be read: its type lets no step write there.)
 pub data Lent : Type 0 where
-  ranges : List (List ℕ) → Lent
-  session : Record → List (List ℕ) → Lent
+  ranges : List Range → Lent
+  session : Record → List Range → Lent
 
 -- a call of one of the seven steps: the numbers of the refusals that paper 01 lists for it, its answer, and what it was lent before it
 -- and after it
 pub data Call : List ℕ → Answer → Lent → Lent → Type 0 where
-  receiver-setup : {width : ℕ} {roots pads message message′ : List ℕ} {answer : Answer} → ReceiverSetup width roots pads message answer message′
+  receiver-setup : {width : ℕ} {roots pads message message′ : Range} {answer : Answer}
+      → ReceiverSetup width roots pads message answer message′
       → Call (1 ∷ 5 ∷ []) answer (ranges (message ∷ [])) (ranges (message′ ∷ []))
-  sender-setup : {width : ℕ} {delta pads message siblings siblings′ : List ℕ} {answer : Answer} → SenderSetup width delta pads message siblings answer siblings′
+  sender-setup : {width : ℕ} {delta pads message siblings siblings′ : Range} {answer : Answer}
+      → SenderSetup width delta pads message siblings answer siblings′
       → Call (1 ∷ 5 ∷ []) answer (ranges (siblings ∷ [])) (ranges (siblings′ ∷ []))
   open-session : {r r′ : Record} {width : ℕ} {answer : Answer} → OpenSession r width answer r′
       → Call (1 ∷ []) answer (session r []) (session r′ [])
-  receiver-start : {r r′ : Record} {batch blocks : ℕ} {roots choices table correction choices′ table′ correction′ : List ℕ} {answer : Answer}
+  receiver-start : {r r′ : Record} {batch blocks : ℕ} {roots choices table correction choices′ table′ correction′ : Range}
+      {answer : Answer}
       → ReceiverStart r roots batch blocks choices table correction answer r′ choices′ table′ correction′
-      → Call (1 ∷ 2 ∷ 3 ∷ 4 ∷ 5 ∷ []) answer (session r (choices ∷ table ∷ correction ∷ [])) (session r′ (choices′ ∷ table′ ∷ correction′ ∷ []))
-  sender-correct : {r r′ : Record} {batch blocks : ℕ} {siblings delta correction table table′ : List ℕ} {answer : Answer}
+      → Call (1 ∷ 2 ∷ 3 ∷ 4 ∷ 5 ∷ []) answer (session r (choices ∷ table ∷ correction ∷ []))
+      (session r′ (choices′ ∷ table′ ∷ correction′ ∷ []))
+  sender-correct : {r r′ : Record} {batch blocks : ℕ} {siblings delta correction table table′ : Range} {answer : Answer}
       → SenderCorrect r siblings delta batch blocks correction table answer r′ table′
       → Call (1 ∷ 2 ∷ 3 ∷ 4 ∷ 5 ∷ []) answer (session r (table ∷ [])) (session r′ (table′ ∷ []))
-  receiver-answer : {r r′ : Record} {key : ℕ} {choices table message pads message′ pads′ : List ℕ} {answer : Answer}
+  receiver-answer : {r r′ : Record} {key : ℕ} {choices table message pads message′ pads′ : Range} {answer : Answer}
       → ReceiverAnswer r key choices table message pads answer r′ message′ pads′
       → Call (1 ∷ 2 ∷ 3 ∷ 4 ∷ 5 ∷ []) answer (session r (message ∷ pads ∷ [])) (session r′ (message′ ∷ pads′ ∷ []))
-  sender-verify : {r r′ : Record} {key : ℕ} {table delta message pads pads′ : List ℕ} {answer : Answer}
+  sender-verify : {r r′ : Record} {key : ℕ} {table delta message pads pads′ : Range} {answer : Answer}
       → SenderVerify r key table delta message pads answer r′ pads′
       → Call (1 ∷ 2 ∷ 3 ∷ 4 ∷ 5 ∷ 6 ∷ []) answer (session r (pads ∷ [])) (session r′ (pads′ ∷ []))
 

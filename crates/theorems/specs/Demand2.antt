@@ -1,10 +1,9 @@
 -- Demand 2, over six steps: both setups and the four steps of a batch, of two honest sides. Assumes nothing.
 use mathlib.Core.Path.{_≡_}
 use mathlib.Core.Bool.{true}
-use mathlib.Core.List.{List}
 use Prim.Native.Nat.{ℕ, _+_, _*_, _^_, _<_, _≤_}
 use lib.ListN.{length}
-use Rattle.words.specs.Bytes.{Bytes, part}
+use Rattle.words.specs.Bytes.{Range, Bytes, part}
 use Rattle.words.specs.Bits.{bitAt}
 use Rattle.words.specs.Xor.{xorList, scale}
 use Rattle.sizes.specs.Sizes.{widthAllowed, columns, treesOf, columnLength, deltaLength, rootsLength, receiverBasePadsLength, setupMessageLength, siblingsLength, tableLength, correctionLength, checkMessageLength, receiverPadsLength, senderPadsLength}
@@ -24,13 +23,13 @@ pub record Ready (r : Record) (width : ℕ) : Type 0 where
 -- an honest batch. What a step is lent is named x, and what it leaves there x′
 pub record HonestBatch : Type 0 where
   -- both sides share base transfers, width, batch, blocks and key; the receiver keeps its roots, the sender its secret
-  pub basePads : List ℕ
+  pub basePads : Range
   pub width : ℕ
   pub batch : ℕ
   pub blocks : ℕ
   pub key : ℕ
-  pub roots : List ℕ
-  pub delta : List ℕ
+  pub roots : Range
+  pub delta : Range
   -- the receiver's record before the batch, in it and after it, and the sender's
   pub r : Record
   pub r₁ : Record
@@ -39,24 +38,24 @@ pub record HonestBatch : Type 0 where
   pub q₁ : Record
   pub q₂ : Record
   -- the ranges out
-  pub setupMessage : List ℕ
-  pub setupMessage′ : List ℕ
-  pub siblings : List ℕ
-  pub siblings′ : List ℕ
-  pub choices : List ℕ
-  pub choices′ : List ℕ
-  pub v : List ℕ
-  pub v′ : List ℕ
-  pub correction : List ℕ
-  pub correction′ : List ℕ
-  pub w : List ℕ
-  pub w′ : List ℕ
-  pub message : List ℕ
-  pub message′ : List ℕ
-  pub pads : List ℕ
-  pub pads′ : List ℕ
-  pub bothPads : List ℕ
-  pub bothPads′ : List ℕ
+  pub setupMessage : Range
+  pub setupMessage′ : Range
+  pub siblings : Range
+  pub siblings′ : Range
+  pub choices : Range
+  pub choices′ : Range
+  pub v : Range
+  pub v′ : Range
+  pub correction : Range
+  pub correction′ : Range
+  pub w : Range
+  pub w′ : Range
+  pub message : Range
+  pub message′ : Range
+  pub pads : Range
+  pub pads′ : Range
+  pub bothPads : Range
+  pub bothPads′ : Range
   -- the answers
   pub a₁ : Answer
   pub a₂ : Answer
@@ -97,7 +96,7 @@ pub record HonestBatch : Type 0 where
   pub delta-bytes : Bytes delta
 
 -- a session after a batch: ready for the next
-abbrev pub ended : ℕ → ℕ → Record
+abbrev pub ended : (width batch : ℕ) → Record
 ended width batch = record { width = width; last = batch; blocks = 0; stage = stageReady }
 
 pub record Demand2 (h : HonestBatch) : Type 0 where
@@ -110,4 +109,5 @@ pub record Demand2 (h : HonestBatch) : Type 0 where
       → rowOf columns (columnLength (h .blocks)) (h .w′) j
       ≡ xorList (rowOf columns (columnLength (h .blocks)) (h .v′) j) (scale (bitAt (h .choices′) j) (h .delta))
   -- the receiver's pad of a row is the sender's pad of that choice: pad 0 stands before pad 1
-  pub pads-agree : (j : ℕ) → j < 64 * h .blocks → part (32 * j) 32 (h .pads′) ≡ part (64 * j + 32 * bitAt (h .choices′) j) 32 (h .bothPads′)
+  pub pads-agree : (j : ℕ) → j < 64 * h .blocks
+      → part (32 * j) 32 (h .pads′) ≡ part (64 * j + 32 * bitAt (h .choices′) j) 32 (h .bothPads′)

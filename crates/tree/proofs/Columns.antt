@@ -36,7 +36,7 @@ other-bit d y b x = here (ℕ-discrete y d)
 pub column-identity : (k : ℕ) (root : List ℕ) (d : ℕ) (f : ℕ → List ℕ → ℕ) (b : ℕ)
     → senderAt k root d f b ≡ receiverAt k root f b ⊕ bitOf d b * uAt k root f
 column-identity k root d f b =
-    sum-same k root 0 (λ y m. otherThan d y * (bitOf (y ⊕ d) b * f y m)) (λ y m. bitXor (bitOf y b * f y m) (bitOf d b * f y m))
+    sum-same k root 0 (λ y m. otherThan d y * (bitOf (y ⊕ d) b * f y m)) (λ y m. bitOf y b * f y m ⊕ bitOf d b * f y m)
     (λ y m q.
     other-bit d y b (f y m)
     ∙ ap (λ (p : ℕ). p * f y m) (bit-xor y d b)

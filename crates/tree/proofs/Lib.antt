@@ -2,7 +2,7 @@
 pub mod Sums
 pub mod Path
 pub mod Columns
-pub mod Lanes
+pub mod WalkWords
 pub mod Telescope
 pub mod Streams
 pub mod Sides

@@ -7,7 +7,7 @@ use native.Mathlib.Omega.{arith}
 use lib.Bits.{bitXor, xor-comm, xor-zero-l, xor-zero-r, xor-self}
 use lib.ListN.{length, getD}
 use borrow.Author.Tests.{eq-eqb, ne-eqb}
-use Rattle.words.specs.Xor.{sumTo}
+use Rattle.words.specs.Xor.{_⊕_, sumTo}
 use Rattle.words.proofs.Xor.{digit, xor-assoc}
 use Rattle.words.proofs.Lists.{tabulate-at}
 use Rattle.words.proofs.Sums.{sumTo-same}
@@ -46,15 +46,15 @@ path-ends k d h =
 
 -- the one side of a node and the other
 fork : (r : ℕ) (n : List ℕ) (y : ℕ) (g : ℕ → List ℕ → ℕ) (p : ℕ) → p < 2
-    → sumBelow (suc r) n y g ≡ bitXor (sumBelow r (childOf p n) (2 * y + p) g) (sumBelow r (childOf (1 - p) n) (2 * y + (1 - p)) g)
+    → sumBelow (suc r) n y g ≡ sumBelow r (childOf p n) (2 * y + p) g ⊕ sumBelow r (childOf (1 - p) n) (2 * y + (1 - p)) g
 unfolding sumBelow
 fork r n y g p h =
     digit
-    (λ (p : ℕ). bitXor (sumBelow r (childOf 0 n) (2 * y) g) (sumBelow r (childOf 1 n) (2 * y + 1) g)
-    ≡ bitXor (sumBelow r (childOf p n) (2 * y + p) g) (sumBelow r (childOf (1 - p) n) (2 * y + (1 - p)) g))
-    (ap (λ (w : ℕ). bitXor (sumBelow r (childOf 0 n) w g) (sumBelow r (childOf 1 n) (2 * y + 1) g)) (sym (add-zero (2 * y))))
+    (λ (p : ℕ). sumBelow r (childOf 0 n) (2 * y) g ⊕ sumBelow r (childOf 1 n) (2 * y + 1) g
+    ≡ sumBelow r (childOf p n) (2 * y + p) g ⊕ sumBelow r (childOf (1 - p) n) (2 * y + (1 - p)) g)
+    (ap (λ (w : ℕ). sumBelow r (childOf 0 n) w g ⊕ sumBelow r (childOf 1 n) (2 * y + 1) g) (sym (add-zero (2 * y))))
     (xor-comm (sumBelow r (childOf 0 n) (2 * y) g) (sumBelow r (childOf 1 n) (2 * y + 1) g)
-    ∙ ap (λ (w : ℕ). bitXor (sumBelow r (childOf 1 n) (2 * y + 1) g) (sumBelow r (childOf 0 n) w g)) (sym (add-zero (2 * y)))) p h
+    ∙ ap (λ (w : ℕ). sumBelow r (childOf 1 n) (2 * y + 1) g ⊕ sumBelow r (childOf 0 n) w g) (sym (add-zero (2 * y)))) p h
 
 -- the ⊕ of g over the nodes m levels below the root that stand below the siblings of the first l levels
 abbrev pub sumBeside : ℕ → List ℕ → ℕ → (ℕ → List ℕ → ℕ) → ℕ → ℕ → ℕ
@@ -72,12 +72,12 @@ split k root d g m (suc l) le =
     let r : m - l ≡ suc (m - 1 - l) = omega arith in
     let r′ : m - 1 - l ≡ m - suc l = omega arith in
     split k root d g m l (omega arith)
-    ∙ ap (λ (x : ℕ). bitXor x (sumBeside k root d g m l))
+    ∙ ap (λ (x : ℕ). x ⊕ sumBeside k root d g m l)
     (ap (λ (i : ℕ). sumBelow i (pathNode k root d l) (pathNumber k d l) g) r
     ∙ fork (m - 1 - l) (pathNode k root d l) (pathNumber k d l) g (pathBit k d l) (path-bit-lt k d l))
     ∙ xor-assoc (on (m - 1 - l)) off (sumBeside k root d g m l)
     ∙ ap (bitXor (on (m - 1 - l))) (xor-comm off (sumBeside k root d g m l))
-    ∙ ap (λ (i : ℕ). bitXor (on i) (bitXor (sumBeside k root d g m l) off)) r′
+    ∙ ap (λ (i : ℕ). on i ⊕ (sumBeside k root d g m l ⊕ off)) r′
   where
     on : ℕ → ℕ
     on i = sumBelow i (childOf (pathBit k d l) (pathNode k root d l)) (2 * pathNumber k d l + pathBit k d l) g
@@ -94,7 +94,7 @@ unfolding sumBelow
 split-all k root d g l =
     let e : l - l ≡ 0 = omega arith in
     split k root d g l l (omega arith)
-    ∙ ap (λ (i : ℕ). bitXor (sumBelow i (pathNode k root d l) (pathNumber k d l) g) (sumBeside k root d g l l)) e
+    ∙ ap (λ (i : ℕ). sumBelow i (pathNode k root d l) (pathNumber k d l) g ⊕ sumBeside k root d g l l) e
 
 -- ---- the siblings' subtrees together are all leaves but d
 

@@ -10,12 +10,12 @@ use Rattle.words.specs.Bits.{bitOf}
 use Rattle.words.proofs.Xor.{bit-lt}
 use Rattle.words.proofs.Numbers.{bytes-scale, bytes-lt}
 use Rattle.chacha20.specs.ChaCha.{blockWords, blockOf}
-use Rattle.chacha20.specs.Lanes.{keyIn}
-use Rattle.chacha20.proofs.Laws.{block-byte}
+use Rattle.chacha20.specs.FourStates.{keyIn}
+use Rattle.chacha20.proofs.BlockLaws.{block-byte}
 use Rattle.tree.specs.declared.Stream.{Stream}
 use Rattle.tree.specs.Tree.{sumBelow, streamByte}
 use Rattle.tree.specs.Columns.{uAt, receiverAt}
-use Rattle.tree.specs.Lanes.{uWord, columnWord}
+use Rattle.tree.specs.WalkWords.{uWord, columnWord}
 use Rattle.tree.specs.Streams.{blockWord, byteOf, wordOf}
 use Rattle.tree.proofs.Sums.{sum-byte}
 

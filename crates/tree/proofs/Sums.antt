@@ -12,9 +12,10 @@ use Rattle.words.specs.Bytes.{bytes}
 use Rattle.words.specs.Bits.{bitOf}
 use Rattle.words.proofs.Xor.{bit-lt, bit-xor, bits-scale, xor-swap, scale-xor}
 use Rattle.words.proofs.Numbers.{bytes-xor}
-use Rattle.chacha20.proofs.Laws.{blockOf-length}
-use Rattle.chacha20.specs.Nonce.{nonceOf}
+use Rattle.chacha20.proofs.BlockLaws.{blockOf-length}
+use Rattle.tree.specs.Nonce.{nonceOf}
 use Rattle.tree.specs.Tree.{childrenOf, childOf, sumBelow}
+use Rattle.words.specs.Xor.{_⊕_}
 
 -- ---- a node's children
 
@@ -48,7 +49,7 @@ sum-same (suc l) n y g h e =
     (sum-same l (childOf 1 n) (2 * y + 1) g h (λ z m q. e z m (half l z ∙ omega arith)))
 
 pub sum-xor : (l : ℕ) (n : List ℕ) (y : ℕ) (g h : ℕ → List ℕ → ℕ)
-    → sumBelow l n y (λ z m. bitXor (g z m) (h z m)) ≡ bitXor (sumBelow l n y g) (sumBelow l n y h)
+    → sumBelow l n y (λ z m. g z m ⊕ h z m) ≡ sumBelow l n y g ⊕ sumBelow l n y h
 unfolding sumBelow
 sum-xor zero n y g h = refl
 sum-xor (suc l) n y g h =
@@ -65,7 +66,7 @@ sum-lt w (suc l) n y g h =
     (sum-lt w l (childOf 0 n) (2 * y) g h) (sum-lt w l (childOf 1 n) (2 * y + 1) g h)
 
 -- what goes through one ⊕ goes through a sum
-pub sum-map : (h : ℕ → ℕ) → ((a b : ℕ) → h (bitXor a b) ≡ bitXor (h a) (h b)) → (l : ℕ) (n : List ℕ) (y : ℕ) (g : ℕ → List ℕ → ℕ)
+pub sum-map : (h : ℕ → ℕ) → ((a b : ℕ) → h (a ⊕ b) ≡ h a ⊕ h b) → (l : ℕ) (n : List ℕ) (y : ℕ) (g : ℕ → List ℕ → ℕ)
     → sumBelow l n y (λ z m. h (g z m)) ≡ h (sumBelow l n y g)
 unfolding sumBelow
 sum-map h e zero n y g = refl
@@ -118,10 +119,10 @@ sum-shift (suc l) n y g =
 
 -- below the node numbered 1, the nodes whose number has bit b: as below the one numbered 0, and if b is l all nodes once more
 pub sum-bit : (b l : ℕ) (n : List ℕ) (g : List ℕ → ℕ) → sumBelow l n 1 (λ z m. bitOf z b * g m)
-    ≡ bitXor (sumBelow l n 0 (λ z m. bitOf z b * g m)) (bitOf (2 ^ l) b * sumBelow l n 0 (λ z m. g m))
+    ≡ sumBelow l n 0 (λ z m. bitOf z b * g m) ⊕ bitOf (2 ^ l) b * sumBelow l n 0 (λ z m. g m)
 sum-bit b l n g =
     sum-shift l n 1 (λ z m. bitOf z b * g m)
-    ∙ sum-same l n 0 (λ z m. bitOf (1 * 2 ^ l + z) b * g m) (λ z m. bitXor (bitOf z b * g m) (bitOf (2 ^ l) b * g m))
+    ∙ sum-same l n 0 (λ z m. bitOf (1 * 2 ^ l + z) b * g m) (λ z m. bitOf z b * g m ⊕ bitOf (2 ^ l) b * g m)
     (λ z m q.
     let small : z < 2 ^ l =
     omega (arith, div-add-mod' z (2 ^ l), ap (λ (x : ℕ). x * 2 ^ l) q, zero-mul (2 ^ l), mod-lt z (pow-pos l)) in

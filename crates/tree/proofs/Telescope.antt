@@ -9,18 +9,18 @@ use lib.Arith.{digits-div, digits-mod}
 use lib.Bits.{bitXor, xor-zero-r}
 use lib.ListN.{length, getD}
 use Rattle.words.specs.Bits.{bitOf}
-use Rattle.words.specs.Xor.{xorEach, xorPart}
+use Rattle.words.specs.Xor.{_⊕_, xorEach, xorPart}
 use Rattle.words.proofs.Xor.{xor-assoc, xor-around}
 use Rattle.words.proofs.Sums.{zero-bit, power-bit, power-other}
 use Rattle.words.proofs.Lists.{xorEach-length, xorEach-at, xorEach-is, xorEach-cong, xorEach-zero, xorEach-twice}
 use Rattle.words.proofs.Parts.{xorPart-length, xorPart-before, xorPart-in, xorPart-after}
 use Rattle.chacha20.specs.ChaCha.{blockWords}
-use Rattle.chacha20.specs.Lanes.{keyIn, blocksOf}
+use Rattle.chacha20.specs.FourStates.{keyIn, blocksOf}
 use Rattle.tree.specs.Tree.{childOf, sumBelow}
-use Rattle.tree.specs.Lanes.{uWord, columnWord}
+use Rattle.tree.specs.WalkWords.{uWord, columnWord}
 use Rattle.tree.specs.Streams.{blockWord}
 use Rattle.tree.proofs.Sums.{sum-number, sum-bit}
-use Rattle.tree.proofs.Lanes.{blocks-word}
+use Rattle.tree.proofs.WalkWords.{blocks-word}
 
 -- ---- four leaves
 
@@ -52,10 +52,10 @@ leaf-columns word len nodes v =
 module _ (word : ℕ → List ℕ → ℕ) (r : ℕ) (nodes a b : List ℕ)
     (left : (l : ℕ) → l < 4 → keyIn l a ≡ childOf 0 (keyIn l nodes)) (right : (l : ℕ) → l < 4 → keyIn l b ≡ childOf 1 (keyIn l nodes)) where
   -- the leaves below the left nodes and those below the right ones
-  u-at : (i : ℕ) → bitXor (uWord word r a i) (uWord word r b i) ≡ uWord word (suc r) nodes i
+  u-at : (i : ℕ) → uWord word r a i ⊕ uWord word r b i ≡ uWord word (suc r) nodes i
   unfolding sumBelow
   u-at i =
-      ap₂ (λ (x y : List ℕ). bitXor (sumBelow r x 0 (λ z m. word (i / 4) m)) (sumBelow r y 0 (λ z m. word (i / 4) m)))
+      ap₂ (λ (x y : List ℕ). sumBelow r x 0 (λ z m. word (i / 4) m) ⊕ sumBelow r y 0 (λ z m. word (i / 4) m))
       (left (i % 4) (omega arith)) (right (i % 4) (omega arith))
       ∙ ap (bitXor (sumBelow r (childOf 0 (keyIn (i % 4) nodes)) 0 (λ z m. word (i / 4) m)))
       (sum-number r (childOf 1 (keyIn (i % 4) nodes)) 0 1 (word (i / 4)))
@@ -66,15 +66,15 @@ module _ (word : ℕ → List ℕ → ℕ) (r : ℕ) (nodes a b : List ℕ)
       e₂
       ∙ ap (λ (w : List ℕ). xorEach w (uWord word r b)) e₁
       ∙ xorEach-twice u (uWord word r a) (uWord word r b)
-      ∙ xorEach-cong u (λ i. bitXor (uWord word r a i) (uWord word r b i)) (uWord word (suc r) nodes) (λ i lt. u-at i)
+      ∙ xorEach-cong u (λ i. uWord word r a i ⊕ uWord word r b i) (uWord word (suc r) nodes) (λ i lt. u-at i)
 
   -- a column is the left nodes' and the right nodes', and at this level all leaves below the right nodes
   column-at : (len i : ℕ)
-      → bitXor (columnWord word len r a i) (bitXor (columnWord word len r b i) (bitOf (2 ^ r) (i / len) * uWord word r b (i % len)))
+      → columnWord word len r a i ⊕ (columnWord word len r b i ⊕ bitOf (2 ^ r) (i / len) * uWord word r b (i % len))
       ≡ columnWord word len (suc r) nodes i
   unfolding sumBelow
   column-at len i =
-      ap₂ (λ (x y : List ℕ). bitXor (sumBelow r x 0 f) (bitXor (sumBelow r y 0 f) (bitOf (2 ^ r) (i / len) * sumBelow r y 0 (λ z m. g m))))
+      ap₂ (λ (x y : List ℕ). sumBelow r x 0 f ⊕ (sumBelow r y 0 f ⊕ bitOf (2 ^ r) (i / len) * sumBelow r y 0 (λ z m. g m)))
       (left (i % len % 4) (omega arith)) (right (i % len % 4) (omega arith))
       ∙ ap (bitXor (sumBelow r (childOf 0 (keyIn (i % len % 4) nodes)) 0 f))
       (sym (sum-bit (i / len) r (childOf 1 (keyIn (i % len % 4) nodes)) g))
@@ -108,34 +108,34 @@ module _ (word : ℕ → List ℕ → ℕ) (r : ℕ) (nodes a b : List ℕ)
     l₄ = ap length e₄ ∙ xorPart-length v₃ (r * len) len (λ i. getD u₂ i 0) f₃ ∙ l₃
 
     -- what each step adds at a place
-    u-later : (j : ℕ) → j < len → getD u₂ j 0 ≡ bitXor (getD u₁ j 0) (uWord word r b j)
+    u-later : (j : ℕ) → j < len → getD u₂ j 0 ≡ getD u₁ j 0 ⊕ uWord word r b j
     u-later j h =
         ap (λ (l : List ℕ). getD l j 0) t₂
         ∙ xorEach-at u₁ (uWord word r b) j (omega (arith, size, ap length t₁, xorEach-length u (uWord word r a)))
 
-    v-first : (i : ℕ) → i < length v → getD v₁ i 0 ≡ bitXor (getD v i 0) (columnWord word len r a i)
+    v-first : (i : ℕ) → i < length v → getD v₁ i 0 ≡ getD v i 0 ⊕ columnWord word len r a i
     v-first i h = ap (λ (l : List ℕ). getD l i 0) e₁ ∙ xorEach-at v (columnWord word len r a) i h
 
-    v-third : (i : ℕ) → i < length v → getD v₃ i 0 ≡ bitXor (getD v₂ i 0) (columnWord word len r b i)
+    v-third : (i : ℕ) → i < length v → getD v₃ i 0 ≡ getD v₂ i 0 ⊕ columnWord word len r b i
     v-third i h = ap (λ (l : List ℕ). getD l i 0) e₃ ∙ xorEach-at v₂ (columnWord word len r b) i (omega (arith, l₂))
 
     -- the columns of the other levels
     outside : (i : ℕ) → i < length v → (i / len ≡ r → ⊥) → getD v₂ i 0 ≡ getD v₁ i 0 → getD v₄ i 0 ≡ getD v₃ i 0
-        → getD v₄ i 0 ≡ bitXor (getD v i 0) (columnWord word len (suc r) nodes i)
+        → getD v₄ i 0 ≡ getD v i 0 ⊕ columnWord word len (suc r) nodes i
     outside i h ne p q =
         let x : ℕ = columnWord word len r a i in
         let y : ℕ = columnWord word len r b i in
         let w : ℕ = uWord word r b (i % len) in
         q
         ∙ v-third i h
-        ∙ ap (λ (z : ℕ). bitXor z y) (p ∙ v-first i h)
+        ∙ ap (λ (z : ℕ). z ⊕ y) (p ∙ v-first i h)
         ∙ xor-assoc (getD v i 0) x y
-        ∙ ap (λ (z : ℕ). bitXor (getD v i 0) (bitXor x z))
-        (sym (ap (λ (z : ℕ). bitXor y (z * w)) (power-other r (i / len) ne) ∙ ap (bitXor y) (zero-mul w) ∙ xor-zero-r y))
+        ∙ ap (λ (z : ℕ). getD v i 0 ⊕ (x ⊕ z))
+        (sym (ap (λ (z : ℕ). y ⊕ z * w) (power-other r (i / len) ne) ∙ ap (bitXor y) (zero-mul w) ∙ xor-zero-r y))
         ∙ ap (bitXor (getD v i 0)) (column-at len i)
 
     -- the column of this level: the sum is added before the right leaves come and after them, so that only they stay
-    inside : (j : ℕ) → j < len → getD v₄ (r * len + j) 0 ≡ bitXor (getD v (r * len + j) 0) (columnWord word len (suc r) nodes (r * len + j))
+    inside : (j : ℕ) → j < len → getD v₄ (r * len + j) 0 ≡ getD v (r * len + j) 0 ⊕ columnWord word len (suc r) nodes (r * len + j)
     inside j h =
         let i : ℕ = r * len + j in
         let lt : r * len + j < length v = omega arith in
@@ -146,14 +146,14 @@ module _ (word : ℕ → List ℕ → ℕ) (r : ℕ) (nodes a b : List ℕ)
         ∙ xorPart-in v₃ (r * len) len (λ i. getD u₂ i 0) f₃ j h
         ∙ ap₂ bitXor
         (v-third i lt
-        ∙ ap (λ (z : ℕ). bitXor z y)
+        ∙ ap (λ (z : ℕ). z ⊕ y)
         (ap (λ (l : List ℕ). getD l i 0) e₂
         ∙ xorPart-in v₁ (r * len) len (λ i. getD u₁ i 0) f₁ j h
-        ∙ ap (λ (z : ℕ). bitXor z (getD u₁ j 0)) (v-first i lt)))
+        ∙ ap (λ (z : ℕ). z ⊕ getD u₁ j 0) (v-first i lt)))
         (u-later j h)
-        ∙ xor-around (bitXor (getD v i 0) x) (getD u₁ j 0) y w
-        ∙ xor-assoc (getD v i 0) x (bitXor y w)
-        ∙ ap (λ (z : ℕ). bitXor (getD v i 0) (bitXor x (bitXor y z)))
+        ∙ xor-around (getD v i 0 ⊕ x) (getD u₁ j 0) y w
+        ∙ xor-assoc (getD v i 0) x (y ⊕ w)
+        ∙ ap (λ (z : ℕ). getD v i 0 ⊕ (x ⊕ (y ⊕ z)))
         (sym
         (ap₂ (λ (c k : ℕ). bitOf (2 ^ r) c * uWord word r b k) (digits-div r h) (digits-mod r h)
         ∙ ap (λ (z : ℕ). z * w) (power-bit r)
@@ -161,14 +161,14 @@ module _ (word : ℕ → List ℕ → ℕ) (r : ℕ) (nodes a b : List ℕ)
         ∙ ap (bitXor (getD v i 0)) (column-at len i)
 
     at : (i : ℕ) → i < length v → Dec (i < r * len) → Dec (i < r * len + len)
-        → getD v₄ i 0 ≡ bitXor (getD v i 0) (columnWord word len (suc r) nodes i)
+        → getD v₄ i 0 ≡ getD v i 0 ⊕ columnWord word len (suc r) nodes i
     at i h (yes lo) d =
         outside i h (λ q. omega (arith, div-add-mod' i len, ap (λ (x : ℕ). x * len) q, lo))
         (ap (λ (l : List ℕ). getD l i 0) e₂ ∙ xorPart-before v₁ (r * len) len (λ i. getD u₁ i 0) f₁ i lo)
         (ap (λ (l : List ℕ). getD l i 0) e₄ ∙ xorPart-before v₃ (r * len) len (λ i. getD u₂ i 0) f₃ i lo)
     at i h (no lo) (yes hi) =
         let back : r * len + (i - r * len) ≡ i = omega arith in
-        subst (λ (k : ℕ). getD v₄ k 0 ≡ bitXor (getD v k 0) (columnWord word len (suc r) nodes k)) back (inside (i - r * len) (omega arith))
+        subst (λ (k : ℕ). getD v₄ k 0 ≡ getD v k 0 ⊕ columnWord word len (suc r) nodes k) back (inside (i - r * len) (omega arith))
     at i h (no lo) (no hi) =
         outside i h (λ q. omega (arith, div-add-mod' i len, ap (λ (x : ℕ). x * len) q, mod-lt i pos, hi))
         (ap (λ (l : List ℕ). getD l i 0) e₂ ∙ xorPart-after v₁ (r * len) len (λ i. getD u₁ i 0) f₁ i (omega arith))

@@ -11,14 +11,14 @@ use Rattle.tree.specs.Sides.{TreesFit}
 pub trees-fit : (k : ℕ) → widthAllowed k ≡ true → TreesFit (treesOf k) k
 trees-fit =
     width-cases (λ (k : ℕ). TreesFit (treesOf k) k)
-    (omega arith, refl, omega arith, omega arith, omega arith)
-    (omega arith, refl, omega arith, omega arith, omega arith)
-    (omega arith, refl, omega arith, omega arith, omega arith)
-    (omega arith, refl, omega arith, omega arith, omega arith)
+    (record { some = omega arith; fours = refl; deep = omega arith; shallow = omega arith; few = omega arith })
+    (record { some = omega arith; fours = refl; deep = omega arith; shallow = omega arith; few = omega arith })
+    (record { some = omega arith; fours = refl; deep = omega arith; shallow = omega arith; few = omega arith })
+    (record { some = omega arith; fours = refl; deep = omega arith; shallow = omega arith; few = omega arith })
 
 -- there are at most as many trees as base transfers
 pub few-trees : (n k : ℕ) → TreesFit n k → n ≤ columns
-few-trees n k fits = omega (arith, fits .4, le-mul-of-pos-right n (fits .2))
+few-trees n k fits = omega (arith, fits .few, le-mul-of-pos-right n (fits .deep))
 
 -- four of n trees from tree i on, where a range has m elements for each tree
 pub four-fit : (n i : ℕ) → n % 4 ≡ 0 → i % 4 ≡ 0 → i < n → (m : ℕ)

@@ -1,7 +1,8 @@
+pub mod Nonce
 pub mod Tree
 pub mod Path
 pub mod Columns
 pub mod Layout
-pub mod Lanes
+pub mod WalkWords
 pub mod Streams
 pub mod Sides

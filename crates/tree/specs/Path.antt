@@ -1,6 +1,6 @@
 -- The path of a number d through a tree of k levels, and the nodes beside it. Assumes nothing.
 use Prim.Native.Nat.{ℕ, zero, suc, _+_, _-_, _*_}
-use mathlib.Core.List.{List}
+use Rattle.words.specs.Bytes.{Range}
 use Rattle.words.specs.Bits.{bitOf}
 use Rattle.tree.specs.Tree.{childOf}
 
@@ -9,7 +9,7 @@ abbrev pub pathBit : (k d level : ℕ) → ℕ
 pathBit k d level = bitOf d (k - 1 - level)
 
 -- the path's node at a level, and its number in its depth
-unfoldable pub pathNode : (k : ℕ) (root : List ℕ) (d level : ℕ) → List ℕ
+unfoldable pub pathNode : (k : ℕ) (root : Range) (d level : ℕ) → Range
 pathNode k root d zero = root
 pathNode k root d (suc level) = childOf (pathBit k d level) (pathNode k root d level)
 
@@ -18,7 +18,7 @@ pathNumber k d zero = 0
 pathNumber k d (suc level) = 2 * pathNumber k d level + pathBit k d level
 
 -- the node beside the path (the sibling) that is made at a level, and its number in its depth
-abbrev pub siblingNode : (k : ℕ) (root : List ℕ) (d level : ℕ) → List ℕ
+abbrev pub siblingNode : (k : ℕ) (root : Range) (d level : ℕ) → Range
 siblingNode k root d level = childOf (1 - pathBit k d level) (pathNode k root d level)
 
 abbrev pub siblingNumber : (k d level : ℕ) → ℕ

@@ -17,5 +17,9 @@ abbrev pub Sides : List ℕ → Type 0
 Sides sides = (c : ℕ) → getD sides c 0 < 2
 
 -- n trees of k levels as the code takes them: whole groups of four, of 1 to 8 levels each, with at most 128 base transfers in all
-abbrev pub TreesFit : (n k : ℕ) → Type 0
-TreesFit n k = (0 < n) × (n % 4 ≡ 0) × (0 < k) × (k ≤ 8) × (n * k ≤ columns)
+pub record TreesFit (n k : ℕ) : Type 0 where
+  pub some : 0 < n
+  pub fours : n % 4 ≡ 0
+  pub deep : 0 < k
+  pub shallow : k ≤ 8
+  pub few : n * k ≤ columns

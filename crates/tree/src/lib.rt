@@ -6,12 +6,22 @@ ghost use Prim.Native.Nat.{_+_, _*_, _%_, _≤_, _<_};
 ghost use lib.ListN.{length, getD};
 ghost use Rattle.words.specs.Bytes.{part};
 ghost use Rattle.words.specs.Xor.{xorEach, xorPart};
-ghost use Rattle.tree.specs.Lanes.{totalWord, uWord, columnWord};
+ghost use Rattle.tree.specs.Nonce.{nonceOf};
+ghost use Rattle.tree.specs.WalkWords.{totalWord, uWord, columnWord};
 ghost use Rattle.tree.specs.Streams.{blockWord, wordOf};
 
 // What a leaf's stream is drawn by: the number of the batch.
 pub struct Stream {
     pub batch: u32,
+}
+
+// The nonce of a use number and a batch number.
+pub fn nonce(purpose: u32, batch: u32) -> [u8; 12]
+    ensures { λ r. ⌜ r ≡ nonceOf purpose batch ⌝ }
+{
+    let p = words::bytes32(purpose);
+    let b = words::bytes32(batch);
+    [p[0], p[1], p[2], p[3], b[0], b[1], b[2], b[3], 0, 0, 0, 0]
 }
 
 // The four nodes at a place of s: in four blocks the left children stand at 0, the right ones at 32.
@@ -34,7 +44,7 @@ pub fn totals(nodes: &[u32; 32], levels: usize, t: &mut [u32])
     ensures { λ _. ⌜ now (t .exit) ≡ xorEach (now (t .entry)) (totalWord (now (nodes .entry))) ⌝ }
 {
     if levels > 0 {
-        let c = chacha20::four::block(nodes, 0, &chacha20::nonce(0, 0));
+        let c = chacha20::four::block(nodes, 0, &nonce(0, 0));
         words::xor_words(&mut t[0..64], &c);
         totals(&nodes_at(&c, 0), levels - 1, &mut t[64..]);
         totals(&nodes_at(&c, 32), levels - 1, &mut t[64..]);
@@ -42,7 +52,7 @@ pub fn totals(nodes: &[u32; 32], levels: usize, t: &mut [u32])
 }
 
 // Adds the blocks of four keys under a nonce, by the counters from 0 on, to u.
-fn add_blocks(keys: &[u32; 32], nonce: &[u8; 12], u: &mut [u32])
+fn add_blocks(nonce: &[u8; 12], keys: &[u32; 32], u: &mut [u32])
     requires { ⌜ (length (now u) % 64 ≡ 0) × (length (now u) ≤ 512) ⌝ }
     ensures { λ _. ⌜ now (u .exit) ≡ xorEach (now (u .entry)) (uWord (blockWord (now (nonce .entry))) 0 (now (keys .entry))) ⌝ }
 {
@@ -58,11 +68,11 @@ fn add_blocks(keys: &[u32; 32], nonce: &[u8; 12], u: &mut [u32])
 }
 
 // Adds the streams of four leaves to u.
-fn add_stream(leaves: &[u32; 32], stream: Stream, u: &mut [u32])
+fn add_stream(stream: Stream, leaves: &[u32; 32], u: &mut [u32])
     requires { ⌜ (length (now u) % 64 ≡ 0) × (length (now u) ≤ 512) ⌝ }
     ensures { λ _. ⌜ now (u .exit) ≡ xorEach (now (u .entry)) (uWord (wordOf stream) 0 (now (leaves .entry))) ⌝ }
 {
-    add_blocks(leaves, &chacha20::nonce(1, stream.batch), u);
+    add_blocks(&nonce(1, stream.batch), leaves, u);
 }
 
 // Adds u to column r of v.
@@ -77,19 +87,19 @@ fn add_column(v: &mut [u32], r: usize, u: &[u32])
 
 // Adds the streams of all leaves some levels below four nodes to u, and to column b of v those of the leaves whose number has bit b.
 // The leaves on the right have the bit of their level: u is added to its column before them and after them, so that only they stay.
-pub fn walk(nodes: &[u32; 32], levels: usize, stream: Stream, u: &mut [u32], v: &mut [u32])
+pub fn walk(stream: Stream, levels: usize, nodes: &[u32; 32], u: &mut [u32], v: &mut [u32])
     requires { ⌜ levels * length (now u) ≤ length (now v) ⌝ }
     requires { ⌜ (length (now u) % 64 ≡ 0) × (length (now u) ≤ 512) × (0 < length (now u)) ⌝ }
     ensures { λ _. ⌜ now (u .exit) ≡ xorEach (now (u .entry)) (uWord (wordOf stream) levels (now (nodes .entry))) ⌝ }
     ensures { λ _. ⌜ now (v .exit) ≡ xorEach (now (v .entry)) (columnWord (wordOf stream) (length (now (u .entry))) levels (now (nodes .entry))) ⌝ }
 {
     if levels == 0 {
-        add_stream(nodes, stream, u);
+        add_stream(stream, nodes, u);
     } else {
-        let c = chacha20::four::block(nodes, 0, &chacha20::nonce(0, 0));
-        walk(&nodes_at(&c, 0), levels - 1, stream, u, v);
+        let c = chacha20::four::block(nodes, 0, &nonce(0, 0));
+        walk(stream, levels - 1, &nodes_at(&c, 0), u, v);
         add_column(v, levels - 1, u); // what u has so far goes when u is added again
-        walk(&nodes_at(&c, 32), levels - 1, stream, u, v);
+        walk(stream, levels - 1, &nodes_at(&c, 32), u, v);
         add_column(v, levels - 1, u);
     }
 }

@@ -71,7 +71,7 @@ fn four_folds(p: &[u8]) {
         return;
     }
     let t = gf64::table(words::load64(p, 0));
-    let folds = gf64::fold_four(&t, &p[8..], (n - 8) / 4);
+    let folds = gf64::fold_four(&t, (n - 8) / 4, &p[8..]);
     let mut out = [0u8; 32];
     words::store64(&mut out, 0, folds[0]);
     words::store64(&mut out, 8, folds[1]);
@@ -85,7 +85,7 @@ fn nonce(p: &[u8]) {
     if p.len() != 8 {
         return;
     }
-    cases::print(&chacha20::nonce(words::load32(p, 0), words::load32(p, 4)));
+    cases::print(&tree::nonce(words::load32(p, 0), words::load32(p, 4)));
 }
 
 // Where a range ends that starts at one place and whose length stands at another; no later than the payload. The `ensures` gives the

@@ -5,7 +5,7 @@ use lib.ListN.{length, getD}
 use Rattle.words.specs.Word32.{add32}
 use Rattle.words.proofs.Progress.{Updated, updated-none, updated-one, updated-all}
 use Rattle.chacha20.specs.ChaCha.{addWords}
-use Rattle.chacha20.proofs.Laws.{addWords-length, addWords-at}
+use Rattle.chacha20.proofs.BlockLaws.{addWords-length, addWords-at}
 use borrow.Author.Needs.{needs}
 use Rattle.chacha20.proofs.add_words.Statement.{statement}
 use Rattle.chacha20.proofs.add_words.Tie as tie

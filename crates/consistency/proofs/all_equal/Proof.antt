@@ -5,11 +5,10 @@ use mathlib.Core.List.{List}
 use Prim.Native.Nat.{ℕ, _-_, _^_, _≤_, _<_}
 use native.Mathlib.Omega.{arith}
 use lib.Dec.{eqb}
-use borrow.Author.Needs.{needs}
-use Rattle.words.specs.Bytes.{Bytes, bytes, concat}
+use Rattle.words.specs.Bytes.{Bytes, bytes, concat, every}
 use Rattle.gf64.specs.Field.{foldBytes}
 use Rattle.tree.specs.Layout.{columnOf}
-use Rattle.consistency.specs.Message.{sidesEqual, every, accepts}
+use Rattle.consistency.specs.Message.{sidesEqual, accepts}
 use Rattle.consistency.proofs.Sides.{compared-more}
 use Rattle.consistency.proofs.all_equal.Statement.{statement}
 use Rattle.consistency.proofs.all_equal.Tie as tie

@@ -10,7 +10,7 @@ use borrow.Rule.Slice.PartMut.{mid-len}
 use Rattle.words.specs.Bytes.{bytes, concat}
 use Rattle.words.proofs.Concat.{concat-grow, concat-length}
 use Rattle.gf64.specs.Field.{foldBytes}
-use Rattle.gf64.specs.Table.{tableOf}
+use Rattle.gf64.specs.Table.{keyTable}
 use Rattle.tree.specs.Layout.{columnOf}
 use Rattle.words.proofs.Parts.{kept-length}
 use Rattle.consistency.proofs.Folds.{four-folds}
@@ -18,14 +18,14 @@ use Rattle.consistency.proofs.fold_columns.Statement.{statement}
 use Rattle.consistency.proofs.fold_columns.Tie as tie
 
 abbrev Inv-loop : tie.InvT-loop
-Inv-loop m t table len out₀ i₀ out i =
+Inv-loop m len t table out₀ i₀ out i =
     (i % 4 ≡ 0)
     × (i ≤ m)
     × (length out ≡ 8 * m)
-    × ((g : ℕ) → t ≡ tableOf g → take (i * 8) out ≡ concat i (λ c. bytes 8 (foldBytes g (columnOf len table c))))
+    × ((g : ℕ) → t ≡ keyTable g → take (i * 8) out ≡ concat i (λ c. bytes 8 (foldBytes g (columnOf len table c))))
 
 abbrev μ-loop : tie.MeasureT-loop
-μ-loop m t table len out₀ i₀ out i = m - i
+μ-loop m len t table out₀ i₀ out i = m - i
 
 loop-holds : tie.Need-loop-holds Inv-loop μ-loop
 unfolding concat

@@ -1,4 +1,4 @@
-use Rattle.foldtext.proofs.Laws.{holds-within, holds-counted}
+use Rattle.foldtext.proofs.LineLaws.{holds-within, holds-counted}
 use borrow.Author.Needs.{needs}
 use Rattle.foldprint.proofs.main.Statement.{statement}
 use Rattle.foldprint.proofs.main.Tie as tie

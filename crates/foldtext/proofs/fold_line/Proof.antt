@@ -1,5 +1,5 @@
 use borrow.Author.Needs.{needs}
-use Rattle.foldtext.proofs.Laws.{digit-more}
+use Rattle.foldtext.proofs.LineLaws.{digit-more}
 use Rattle.foldtext.specs.Line.{hexDigits, foldLine}
 use lib.ListN.{length, drop, length-set}
 use native.Mathlib.Omega.{arith}

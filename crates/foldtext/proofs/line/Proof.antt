@@ -1,6 +1,6 @@
 use lib.ListN.{length-drop, length, drop}
 use Rattle.foldtext.specs.Line.{Holds, isInput, foldLine, lineOf}
-use Rattle.foldtext.proofs.Laws.{whole-line, line-input, line-other, input-long, foldLine-length}
+use Rattle.foldtext.proofs.LineLaws.{whole-line, line-input, line-other, input-long, foldLine-length}
 use mathlib.Core.Path.{subst, _≡_, sym, ap, ap₂, _∙_}
 use Rattle.gf64.specs.Field.{foldBytes}
 use lib.Seq.{take-all}

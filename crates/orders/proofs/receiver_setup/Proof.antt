@@ -4,7 +4,7 @@ use mathlib.Core.List.{[], _∷_}
 use Rattle.answer.specs.Answer.{Order, firstOf}
 use Rattle.answer.proofs.Order.{chain, chain-onward}
 use Rattle.sizes.specs.Sizes.{rootsLength, receiverBasePadsLength, setupMessageLength}
-use Rattle.rules.specs.Orders.{has, openOrder}
+use Rattle.rules.specs.Orders.{has, sessionOrder}
 use borrow.Author.Needs.{needs}
 use Rattle.orders.proofs.receiver_setup.Statement.{statement}
 use Rattle.orders.proofs.receiver_setup.Tie as tie
@@ -31,8 +31,8 @@ returns c =
     ∷ has (a .pads) receiverBasePadsLength
     ∷ has (a .message) setupMessageLength
     ∷ [] in
-    let steps : c .has3 .result ≡ chain (firstOf (openOrder (a .width))) rest = cc in
-    steps ∙ chain-onward (openOrder (a .width)) rest refl refl
+    let steps : c .has3 .result ≡ chain (firstOf (sessionOrder (a .width))) rest = cc in
+    steps ∙ chain-onward (sessionOrder (a .width)) rest refl refl
 
 pub receiver-setup-spec : {M : Type 1} → statement M
 receiver-setup-spec =

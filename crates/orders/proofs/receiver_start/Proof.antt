@@ -4,13 +4,13 @@ use mathlib.Core.List.{[], _∷_}
 use Rattle.answer.specs.Answer.{Order, firstOf}
 use Rattle.answer.proofs.Order.{chain, chain-onward}
 use Rattle.sizes.specs.Sizes.{columnLength, rootsLength, tableLength, correctionLength}
-use Rattle.rules.specs.Orders.{has, mayOpen}
+use Rattle.rules.specs.Orders.{has, batchOrder}
 use borrow.Author.Needs.{needs}
 use Rattle.orders.proofs.receiver_start.Statement.{statement}
 use Rattle.orders.proofs.receiver_start.Tie as tie
 
-may-open-requires : tie.Need-may-open-requires
-may-open-requires c κs = search needs
+open-batch-requires : tie.Need-open-batch-requires
+open-batch-requires c κs = search needs
 
 roots-length-requires : tie.Need-roots-length-requires
 roots-length-requires c κs = search needs
@@ -44,14 +44,14 @@ returns c =
     ∷ has (a .table) (tableLength (a .blocks))
     ∷ has (a .correction) (correctionLength (a .r .width) (a .blocks))
     ∷ [] in
-    let steps : c .has4 .result ≡ chain (firstOf (mayOpen (a .r) (a .batch) (a .blocks))) rest = cc in
-    steps ∙ chain-onward (mayOpen (a .r) (a .batch) (a .blocks)) rest refl refl
+    let steps : c .has4 .result ≡ chain (firstOf (batchOrder (a .r) (a .batch) (a .blocks))) rest = cc in
+    steps ∙ chain-onward (batchOrder (a .r) (a .batch) (a .blocks)) rest refl refl
 
 pub receiver-start-spec : {M : Type 1} → statement M
 receiver-start-spec =
     tie.close
     (tie.spec
-    may-open-requires
+    open-batch-requires
     roots-length-requires
     has-requires
     column-length-requires

@@ -4,13 +4,13 @@ use mathlib.Core.List.{[], _∷_}
 use Rattle.answer.specs.Answer.{Order, firstOf}
 use Rattle.answer.proofs.Order.{chain, chain-onward}
 use Rattle.sizes.specs.Sizes.{deltaLength, siblingsLength, tableLength, correctionLength}
-use Rattle.rules.specs.Orders.{has, mayOpen}
+use Rattle.rules.specs.Orders.{has, batchOrder}
 use borrow.Author.Needs.{needs}
 use Rattle.orders.proofs.sender_correct.Statement.{statement}
 use Rattle.orders.proofs.sender_correct.Tie as tie
 
-may-open-requires : tie.Need-may-open-requires
-may-open-requires c κs = search needs
+open-batch-requires : tie.Need-open-batch-requires
+open-batch-requires c κs = search needs
 
 has-requires : tie.Need-has-requires
 has-requires c κs = search needs
@@ -38,14 +38,14 @@ returns c =
     ∷ has (a .correction) (correctionLength (a .r .width) (a .blocks))
     ∷ has (a .table) (tableLength (a .blocks))
     ∷ [] in
-    let steps : c .has4 .result ≡ chain (firstOf (mayOpen (a .r) (a .batch) (a .blocks))) rest = cc in
-    steps ∙ chain-onward (mayOpen (a .r) (a .batch) (a .blocks)) rest refl refl
+    let steps : c .has4 .result ≡ chain (firstOf (batchOrder (a .r) (a .batch) (a .blocks))) rest = cc in
+    steps ∙ chain-onward (batchOrder (a .r) (a .batch) (a .blocks)) rest refl refl
 
 pub sender-correct-spec : {M : Type 1} → statement M
 sender-correct-spec =
     tie.close
     (tie.spec
-    may-open-requires
+    open-batch-requires
     has-requires
     has-requires-2
     correction-length-requires

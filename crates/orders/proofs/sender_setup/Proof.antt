@@ -4,7 +4,7 @@ use mathlib.Core.List.{[], _∷_}
 use Rattle.answer.specs.Answer.{Order, firstOf}
 use Rattle.answer.proofs.Order.{chain, chain-onward}
 use Rattle.sizes.specs.Sizes.{deltaLength, senderBasePadsLength, setupMessageLength, siblingsLength}
-use Rattle.rules.specs.Orders.{has, openOrder}
+use Rattle.rules.specs.Orders.{has, sessionOrder}
 use borrow.Author.Needs.{needs}
 use Rattle.orders.proofs.sender_setup.Statement.{statement}
 use Rattle.orders.proofs.sender_setup.Tie as tie
@@ -32,8 +32,8 @@ returns c =
     ∷ has (a .message) setupMessageLength
     ∷ has (a .siblings) siblingsLength
     ∷ [] in
-    let steps : c .has4 .result ≡ chain (firstOf (openOrder (a .width))) rest = cc in
-    steps ∙ chain-onward (openOrder (a .width)) rest refl refl
+    let steps : c .has4 .result ≡ chain (firstOf (sessionOrder (a .width))) rest = cc in
+    steps ∙ chain-onward (sessionOrder (a .width)) rest refl refl
 
 pub sender-setup-spec : {M : Type 1} → statement M
 sender-setup-spec =

@@ -4,13 +4,13 @@ use mathlib.Core.List.{[], _∷_}
 use Rattle.answer.specs.Answer.{Order, firstOf}
 use Rattle.answer.proofs.Order.{chain, chain-onward}
 use Rattle.sizes.specs.Sizes.{deltaLength, tableLength, checkMessageLength, senderPadsLength}
-use Rattle.rules.specs.Orders.{has, mayEnd}
+use Rattle.rules.specs.Orders.{has, endOrder}
 use borrow.Author.Needs.{needs}
 use Rattle.orders.proofs.sender_verify.Statement.{statement}
 use Rattle.orders.proofs.sender_verify.Tie as tie
 
-may-end-requires : tie.Need-may-end-requires
-may-end-requires c κs = search needs
+end-batch-requires : tie.Need-end-batch-requires
+end-batch-requires c κs = search needs
 
 table-length-requires : tie.Need-table-length-requires
 table-length-requires c κs = search needs
@@ -38,14 +38,14 @@ returns c =
     ∷ has (a .message) checkMessageLength
     ∷ has (a .pads) (senderPadsLength (a .r .blocks))
     ∷ [] in
-    let steps : c .has4 .result ≡ chain (firstOf (mayEnd (a .r))) rest = cc in
-    steps ∙ chain-onward (mayEnd (a .r)) rest refl refl
+    let steps : c .has4 .result ≡ chain (firstOf (endOrder (a .r))) rest = cc in
+    steps ∙ chain-onward (endOrder (a .r)) rest refl refl
 
 pub sender-verify-spec : {M : Type 1} → statement M
 sender-verify-spec =
     tie.close
     (tie.spec
-    may-end-requires
+    end-batch-requires
     table-length-requires
     has-requires
     has-requires-2

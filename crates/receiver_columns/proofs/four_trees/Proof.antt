@@ -32,9 +32,9 @@ hand-out-four-requires c κs =
     let s = c .before .before .before .before .before .before .before .before .before .before .before .before .before .before .before .before .before in
     let len = s .args .len in
     let u = walked .last .1 .1 .1 .0 in
-    let size : length (take (len - 0) u) ≡ len - 0 = length-take-le (len - 0) u (omega (arith, walked .kept .1 .1 .1 .0, s .pre .0 .5)) in
+    let size : length (take (len - 0) u) ≡ len - 0 = length-take-le (len - 0) u (omega (arith, walked .kept .1 .1 .1 .0, s .pre .0 .room)) in
     let whole : length (take (len - 0) u) ≡ len = omega (arith, size) in
-    omega (arith, s .pre, whole, ap (λ (m : ℕ). (s .args .i + 3) * m) whole)
+    omega (arith, s .pre .0, s .pre .1, whole, ap (λ (m : ℕ). (s .args .i + 3) * m) whole)
 
 store-trees-requires : tie.Need-store-trees-requires
 store-trees-requires c κs =
@@ -43,7 +43,7 @@ store-trees-requires c κs =
     let u = walked .kept .1 .1 .1 .0 in
     let v = walked .kept .1 .1 .1 .1 .0 in
     let fits = ap (λ (m : ℕ). s .args .k * m) u in
-    omega (arith, s .pre, u, v, fits)
+    omega (arith, s .pre .0, s .pre .1, u, v, fits)
 
 same-length : tie.Need-same-length
 same-length c = omega arith
@@ -74,20 +74,20 @@ returns c =
     let long = walked .walk-roots .kept .1 .1 .1 .0 in
     let n : ℕ = length (s .args .u .now) in
     let back : len - 0 ≡ len = omega arith in
-    let size : length (take (len - 0) u) ≡ len = length-take-le (len - 0) u (omega (arith, long, s .pre .0 .5)) ∙ back in
+    let size : length (take (len - 0) u) ≡ len = length-take-le (len - 0) u (omega (arith, long, s .pre .0 .room)) ∙ back in
     let xs : List ℕ = s .args .choices .now ++ s .args .correction .now in (
       handed .hand-out-four .ensures
           ∙ ap (λ (m : ℕ). put xs (s .args .i * m) (concat 4 (λ l. laneBytes l (m / 4) (take (len - 0) u)))) size
           ∙ ap (λ (m : ℕ). put xs (s .args .i * len) (concat 4 (λ l. laneBytes l (len / 4) (take m u)))) back
           ∙ ap (put xs (s .args .i * len))
           (concat-same 4 (λ l. laneBytes l (len / 4) (take len u)) (λ i. uOf k stream len (rootOf roots i))
-          (λ l h. walked .walk-roots .ensures .0 len l (s .pre .0 .1) (s .pre .0 .5) h)),
+          (λ l h. walked .walk-roots .ensures .0 len l (s .pre .0 .whole) (s .pre .0 .room) h)),
       c .before .before .store-trees .ensures
           ∙ ap (λ (m : ℕ). concat 4 (λ l. concat k (λ b. laneBytes l (len / 4) (part (b * m) len v)))) long
           ∙ concat-same 4 (λ l. concat k (λ b. laneBytes l (len / 4) (part (b * n) len v))) (λ i. concat k (receiverColumn k stream len (rootOf roots i)))
           (λ l h.
           concat-same k (λ b. laneBytes l (len / 4) (part (b * n) len v)) (receiverColumn k stream len (rootOf roots l))
-          (λ b hb. walked .walk-roots .ensures .1 len l b (s .pre .0 .1) (s .pre .0 .5) h hb)),
+          (λ b hb. walked .walk-roots .ensures .1 len l b (s .pre .0 .whole) (s .pre .0 .room) h hb)),
     )
 
 pub four-trees-spec : {M : Type 1} → statement M

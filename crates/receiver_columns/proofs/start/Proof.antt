@@ -1,5 +1,5 @@
 -- `receiver_columns::start` meets its contract: it lends its work space, and adds the choices to the sums. Assumes nothing.
-use mathlib.Core.Path.{_≡_, refl, sym, ap, _∙_}
+use mathlib.Core.Path.{refl, sym, ap, _∙_}
 use mathlib.Core.List.{List}
 use Prim.Native.Nat.{ℕ, suc, _-_, _*_, _≤_}
 use native.Mathlib.Omega.{arith}
@@ -10,7 +10,7 @@ use Rattle.tree.specs.Streams.{byteOf}
 use Rattle.tree.proofs.TreesFit.{few-trees}
 use Rattle.columns.specs.Columns.{uOf, correctionOf}
 use Rattle.columns.proofs.Tables.{columns-fit}
-use Rattle.receiver_columns.proofs.Starts.{u-length, choices-are, corrected}
+use Rattle.receiver_columns.proofs.Starts.{u-length, choices-are, corrections-made}
 use Rattle.receiver_columns.proofs.start.Statement.{statement}
 use Rattle.receiver_columns.proofs.start.Tie as tie
 
@@ -22,8 +22,8 @@ mul-size c =
     let r = c .room in
     let s = c .before .before .before .before .before in
     let k = s .args .k in
-    let short : r .result ≤ 128 = omega (arith, r .ensures, s .pre .4) in
-    let size = columns-fit k (r .result) (s .pre .0 .3) short in
+    let short : r .result ≤ 128 = omega (arith, r .ensures, s .pre .0 .short) in
+    let size = columns-fit k (r .result) (s .pre .1 .trees .shallow) short in
     omega (arith, size)
 
 sub-trees : tie.Need-sub-trees
@@ -46,8 +46,8 @@ part-v-end c =
     let r = c .before .room in
     let s = c .before .before .before .before .before .before in
     let k = s .args .k in
-    let short : r .result ≤ 128 = omega (arith, r .ensures, s .pre .4) in
-    let size = columns-fit k (r .result) (s .pre .0 .3) short in
+    let short : r .result ≤ 128 = omega (arith, r .ensures, s .pre .0 .short) in
+    let size = columns-fit k (r .result) (s .pre .1 .trees .shallow) short in
     omega (arith, size)
 
 trees-requires : tie.Need-trees-requires
@@ -55,33 +55,33 @@ trees-requires c κs =
     let r = c .before .before .before .before .before .room in
     let s = c .before .before .before .before .before .before .before .before .before .before in
     let k = s .args .k in
-    let short : r .result ≤ 128 = omega (arith, r .ensures, s .pre .4) in
-    let size = columns-fit k (r .result) (s .pre .0 .3) short in
+    let short : r .result ≤ 128 = omega (arith, r .ensures, s .pre .0 .short) in
+    let size = columns-fit k (r .result) (s .pre .1 .trees .shallow) short in
     let u = cut-length (r .result) 128 short in
     let v = cut-length (k * r .result) 1024 size in (
-      (
-        s .pre .0 .3,
-        omega (arith, s .pre .2),
-        s .pre .3,
-        omega (arith, u, r .ensures),
-        omega (arith, u, short),
-        omega (arith, u, r .ensures),
-        v ∙ ap (λ (m : ℕ). k * m) (sym u),
-      ),
-      (s .pre .0, s .pre .1, refl, s .pre .6, s .pre .5),
+      record {
+        shallow = s .pre .1 .trees .shallow;
+        whole = omega (arith, s .pre .0 .words);
+        some = s .pre .0 .some;
+        blocks = omega (arith, u, r .ensures);
+        short = omega (arith, u, short);
+        room = omega (arith, u, r .ensures);
+        columns = v ∙ ap (λ (m : ℕ). k * m) (sym u);
+      },
+      s .pre .1,
     )
 
 sub-xor-parts : tie.Need-sub-xor-parts
-sub-xor-parts c = omega (arith, c .before .before .before .before .before .before .before .before .before .before .before .before .before .before .before .before .before .before .before .before .pre .0)
+sub-xor-parts c = omega (arith, c .before .before .before .before .before .before .before .before .before .before .before .before .before .before .before .before .before .before .before .before .pre .1 .trees .some)
 
 xor-parts-requires : tie.Need-xor-parts-requires
 xor-parts-requires c κs =
     let s = c .before .before .before .before .before .before .before .before .before .before .before .before .before .before .before .before .before .before .before .before .before in
     let did = c .before .before .before .before .before .before .before .before .before .before .trees in
     let long = did .kept .1 .1 .1 .1 .1 .1 .1 .0 in (
-      omega (arith, few-trees (s .args .n) (s .args .k) (s .pre .0)),
-      omega (arith, long, s .pre .4),
-      did .kept .1 .1 .1 .1 .1 .1 .1 .1 .0 ∙ s .pre .6 ∙ ap (λ (m : ℕ). (s .args .n - 1) * m) (sym long),
+      omega (arith, few-trees (s .args .n) (s .args .k) (s .pre .1 .trees)),
+      omega (arith, long, s .pre .0 .short),
+      did .kept .1 .1 .1 .1 .1 .1 .1 .1 .0 ∙ s .pre .1 .correction-long ∙ ap (λ (m : ℕ). (s .args .n - 1) * m) (sym long),
     )
 
 same-length : tie.Need-same-length
@@ -104,12 +104,12 @@ returns c =
     let roots = s .args .roots .now in
     let len : ℕ = length (s .args .choices .now) in
     let f : ℕ → List ℕ = λ i. uOf k stream len (rootOf roots i) in
-    let apart = choices-are f n len _ _ (s .pre .0 .0) (λ i. u-length k stream len (rootOf roots i)) (did .kept .1 .1 .1 .1 .1 .1 .1 .0) (did .ensures .0) in (
+    let apart = choices-are f n len _ _ (s .pre .1 .trees .some) (λ i. u-length k stream len (rootOf roots i)) (did .kept .1 .1 .1 .1 .1 .1 .1 .0) (did .ensures .0) in (
       apart .0,
       (
         did .ensures .1,
         c .before .before .xor-parts .ensures
-            ∙ corrected (n - 1) len (λ i. f (suc i)) (λ i. u-length k stream len (rootOf roots (suc i))) _ _
+            ∙ corrections-made (n - 1) len (λ i. f (suc i)) (λ i. u-length k stream len (rootOf roots (suc i))) _ _
             (f 0) (apart .0) (u-length k stream len (rootOf roots 0)) (apart .1),
       ),
     )

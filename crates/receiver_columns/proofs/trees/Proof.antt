@@ -1,6 +1,6 @@
 -- `receiver_columns::trees` meets its contract: the first i trees are stored. Assumes nothing.
 use mathlib.Core.Path.{_≡_, refl, sym, ap, _∙_}
-use mathlib.Core.List.{_++_}
+use mathlib.Core.List.{List, _++_}
 use Prim.Native.Nat.{ℕ, _+_, _-_, _*_, _%_, _≤_}
 use native.Mathlib.Nat.{add-mul, mul-le-mul-right}
 use native.Mathlib.Omega.{arith}
@@ -17,41 +17,46 @@ use Rattle.receiver_columns.proofs.Starts.{u-length, columns-length, ro
 use Rattle.receiver_columns.proofs.trees.Statement.{statement}
 use Rattle.receiver_columns.proofs.trees.Tie as tie
 
+-- the first i trees are stored, and no range has changed its length
+pub record Stored (n k : ℕ) (stream : ℕ → List ℕ → ℕ) (len : ℕ) (roots u₀ v₀ choices₀ correction₀ u v choices correction table : List ℕ) (i : ℕ) : Type 0 where
+  pub fours : i % 4 ≡ 0
+  pub u-long : length u ≡ length u₀
+  pub v-long : length v ≡ length v₀
+  pub choices-long : length choices ≡ length choices₀
+  pub correction-long : length correction ≡ length correction₀
+  pub sums : Laid n len (λ j. uOf k stream len (rootOf roots j)) i (choices ++ correction)
+  pub columns : Laid n (k * len) (λ j. concat k (receiverColumn k stream len (rootOf roots j))) i table
+
 abbrev Inv-loop : tie.InvT-loop
-Inv-loop n k len stream roots u₀ v₀ choices₀ correction₀ table₀ size i₀ u v choices correction table i =
-    (i % 4 ≡ 0)
-    × (length u ≡ length u₀)
-    × (length v ≡ length v₀)
-    × (length choices ≡ length choices₀)
-    × (length correction ≡ length correction₀)
-    × Laid n len (λ j. uOf k (byteOf stream) len (rootOf roots j)) i (choices ++ correction)
-    × Laid n (k * len) (λ j. concat k (receiverColumn k (byteOf stream) len (rootOf roots j))) i table
+Inv-loop n k stream len roots u₀ v₀ choices₀ correction₀ table₀ size i₀ u v choices correction table i =
+    Stored n k (byteOf stream) len roots u₀ v₀ choices₀ correction₀ u v choices correction table i
 
 abbrev μ-loop : tie.MeasureT-loop
-μ-loop n k len stream roots u₀ v₀ choices₀ correction₀ table₀ size i₀ u v choices correction table i = n - i
+μ-loop n k stream len roots u₀ v₀ choices₀ correction₀ table₀ size i₀ u v choices correction table i = n - i
 
 mul-size : tie.Need-mul-size Inv-loop μ-loop
 mul-size c =
     let s = c .before .before .before .before .before .before in
-    let short : s .args .len ≤ 128 = omega (arith, s .pre .0) in
-    omega (arith, columns-fit (s .args .k) (s .args .len) (s .pre .0 .0) short)
+    let short : s .args .len ≤ 128 = omega (arith, s .pre .0 .short, s .pre .0 .room) in
+    omega (arith, columns-fit (s .args .k) (s .args .len) (s .pre .0 .shallow) short)
 
 loop-holds : tie.Need-loop-holds Inv-loop μ-loop
 loop-holds c =
     let s = c .before .before .before .before .before .before in
     let n = s .args .n in
     let len = s .args .len in
-    let some : n ≡ 1 + (n - 1) = omega (arith, s .pre .1 .0) in
-    let all : len + (n - 1) * len ≡ n * len = omega (arith, ap (λ (j : ℕ). j * len) some, add-mul 1 (n - 1) len) in (
-      omega arith,
-      refl,
-      refl,
-      refl,
-      refl,
-      laid-none n len _ _
-          (length-append (s .args .choices .now) (s .args .correction .now) ∙ omega (arith, s .pre .1 .2, s .pre .1 .3, all)),
-      laid-none n (s .args .k * len) _ _ (s .pre .1 .4),
-    )
+    let some : n ≡ 1 + (n - 1) = omega (arith, s .pre .1 .trees .some) in
+    let all : len + (n - 1) * len ≡ n * len = omega (arith, ap (λ (j : ℕ). j * len) some, add-mul 1 (n - 1) len) in
+    record {
+      fours = refl;
+      u-long = refl;
+      v-long = refl;
+      choices-long = refl;
+      correction-long = refl;
+      sums = laid-none n len _ _
+          (length-append (s .args .choices .now) (s .args .correction .now) ∙ omega (arith, s .pre .1 .choices-long, s .pre .1 .correction-long, all));
+      columns = laid-none n (s .args .k * len) _ _ (s .pre .1 .table-long);
+    }
 
 -- four trees from tree i on, where a range has m bytes for each tree
 abbrev Room : ℕ → ℕ → ℕ → Type 0
@@ -72,17 +77,17 @@ room c =
     let n = s .args .n in
     let len = s .args .len in
     let size : ℕ = s .args .k * len in
-    let few = few-trees n (s .args .k) (s .pre .1 .0) in
-    let next : w .i + 4 ≤ n = omega (arith, w .inv .0, c .loop-test .taken, s .pre .1 .0 .1) in
+    let few = few-trees n (s .args .k) (s .pre .1 .trees) in
+    let next : w .i + 4 ≤ n = omega (arith, w .inv .fours, c .loop-test .taken, s .pre .1 .trees .fours) in
     let next₂ : w .i + 3 ≤ n - 1 = omega arith in
-    let short : len ≤ 128 = omega (arith, s .pre .0) in
-    let low = columns-fit (s .args .k) len (s .pre .0 .0) short in (
+    let short : len ≤ 128 = omega (arith, s .pre .0 .short, s .pre .0 .room) in
+    let low = columns-fit (s .args .k) len (s .pre .0 .shallow) short in (
       next,
       few,
       (omega (arith, mul-le-mul-right size few, low), add-mul (w .i) 4 size, mul-le-mul-right size next),
       mul-le-mul-right len next₂,
-      s .pre .1 .1,
-      w .inv .6 .len,
+      s .pre .1 .roots-long,
+      w .inv .columns .len,
     )
 
 add-next : tie.Need-add-next Inv-loop μ-loop
@@ -123,20 +128,27 @@ four-trees-requires c κs =
     let s = c .before .before .before .before .before .before .before .before .before .before .before .before .before .before in
     let w = c .before .before .before .before .before .before .before .loop in
     let here = room (c .before .before .before .before .before .before) in
-    let pre = s .pre .0 in
+    let fits = s .pre .0 in
     let i = w .i in
     let len = s .args .len in
     let size : ℕ = s .args .k * len in
-    let u = w .inv .1 in
-    let v = w .inv .2 ∙ pre .6 ∙ ap (λ (m : ℕ). s .args .k * m) (sym u) in (
-      (pre .0, pre .1, pre .2, omega (arith, u, pre .3), omega (arith, u, pre .4), omega (arith, u, pre .5), v),
-      (
-        omega (arith, here),
-        mid-len (i * 32) ((i + 4) * 32) (s .args .roots .now) (omega (arith, here)) ∙ omega arith,
-        w .inv .3 ∙ s .pre .1 .2,
-        omega (arith, here .3, w .inv .4, s .pre .1 .3),
-        mid-len (i * size) ((i + 4) * size) (w .table) (omega (arith, here)) ∙ omega (arith, here .2),
-      ),
+    let u = w .inv .u-long in (
+      record {
+        shallow = fits .shallow;
+        whole = fits .whole;
+        some = fits .some;
+        blocks = omega (arith, u, fits .blocks);
+        short = omega (arith, u, fits .short);
+        room = omega (arith, u, fits .room);
+        columns = w .inv .v-long ∙ fits .columns ∙ ap (λ (m : ℕ). s .args .k * m) (sym u);
+      },
+      record {
+        early = omega (arith, here);
+        roots-long = mid-len (i * 32) ((i + 4) * 32) (s .args .roots .now) (omega (arith, here)) ∙ omega arith;
+        choices-long = w .inv .choices-long ∙ s .pre .1 .choices-long;
+        correction-long = omega (arith, here .3, w .inv .correction-long, s .pre .1 .correction-long);
+        table-long = mid-len (i * size) ((i + 4) * size) (w .table) (omega (arith, here)) ∙ omega (arith, here .2);
+      },
     )
 
 loop-less : tie.Need-loop-less Inv-loop μ-loop
@@ -152,41 +164,42 @@ loop-again c =
     let n = s .args .n in
     let len = s .args .len in
     let stream = byteOf (s .args .stream) in
-    let roots = s .args .roots .now in (
-      omega (arith, w .inv .0),
-      call .four-trees .kept .1 .1 .1 .1 .1 .0 ∙ w .inv .1,
-      call .four-trees .kept .1 .1 .1 .1 .1 .1 .0 ∙ w .inv .2,
-      call .four-trees .kept .1 .1 .1 .1 .1 .1 .1 .0 ∙ w .inv .3,
-      call .four-trees .kept .1 .1 .1 .1 .1 .1 .1 .1 .0 ∙ w .inv .4,
-      laid-put n len (λ j. uOf k stream len (rootOf roots j)) (w .i) 4 (w .choices ++ w .correction) _ _
-          (roots-from (uOf k stream len) (w .i) roots) (λ j h. u-length k stream len (rootOf roots j)) next (call .four-trees .ensures .0) (w .inv .5),
-      laid-more n (k * len) (λ j. concat k (receiverColumn k stream len (rootOf roots j))) (w .i) 4 (w .table) _
+    let roots = s .args .roots .now in
+    record {
+      fours = omega (arith, w .inv .fours);
+      u-long = call .four-trees .kept .1 .1 .1 .1 .1 .0 ∙ w .inv .u-long;
+      v-long = call .four-trees .kept .1 .1 .1 .1 .1 .1 .0 ∙ w .inv .v-long;
+      choices-long = call .four-trees .kept .1 .1 .1 .1 .1 .1 .1 .0 ∙ w .inv .choices-long;
+      correction-long = call .four-trees .kept .1 .1 .1 .1 .1 .1 .1 .1 .0 ∙ w .inv .correction-long;
+      sums = laid-put n len (λ j. uOf k stream len (rootOf roots j)) (w .i) 4 (w .choices ++ w .correction) _ _
+          (roots-from (uOf k stream len) (w .i) roots) (λ j h. u-length k stream len (rootOf roots j)) next (call .four-trees .ensures .0) (w .inv .sums);
+      columns = laid-more n (k * len) (λ j. concat k (receiverColumn k stream len (rootOf roots j))) (w .i) 4 (w .table) _
           (call .four-trees .ensures .1 ∙ roots-from (λ r. concat k (receiverColumn k stream len r)) (w .i) roots)
-          (λ j h. columns-length k stream len (rootOf roots j)) next (w .inv .6),
-    )
+          (λ j h. columns-length k stream len (rootOf roots j)) next (w .inv .columns);
+    }
 
 same-length : tie.Need-same-length Inv-loop μ-loop
-same-length c = c .before .loop .inv .1
+same-length c = c .before .loop .inv .u-long
 
 same-length-2 : tie.Need-same-length-2 Inv-loop μ-loop
-same-length-2 c = c .before .loop .inv .2
+same-length-2 c = c .before .loop .inv .v-long
 
 same-length-3 : tie.Need-same-length-3 Inv-loop μ-loop
-same-length-3 c = c .before .loop .inv .3
+same-length-3 c = c .before .loop .inv .choices-long
 
 same-length-4 : tie.Need-same-length-4 Inv-loop μ-loop
-same-length-4 c = c .before .loop .inv .4
+same-length-4 c = c .before .loop .inv .correction-long
 
 same-length-5 : tie.Need-same-length-5 Inv-loop μ-loop
-same-length-5 c = c .before .loop .inv .6 .len ∙ sym (c .before .before .before .before .before .before .before .before .pre .1 .4)
+same-length-5 c = c .before .loop .inv .columns .len ∙ sym (c .before .before .before .before .before .before .before .before .pre .1 .table-long)
 
 returns : tie.Need-returns Inv-loop μ-loop
 unfolding receiverTable tableOf
 returns c =
     let s = c .before .before .before .before .before .before .before .before in
     let w = c .before .loop in (
-      laid-all (s .args .n) (s .args .len) _ (w .i) (w .choices ++ w .correction) (omega arith) (w .inv .5),
-      laid-all (s .args .n) (s .args .k * s .args .len) _ (w .i) (w .table) (omega arith) (w .inv .6),
+      laid-all (s .args .n) (s .args .len) _ (w .i) (w .choices ++ w .correction) (omega arith) (w .inv .sums),
+      laid-all (s .args .n) (s .args .k * s .args .len) _ (w .i) (w .table) (omega arith) (w .inv .columns),
     )
 
 pub trees-spec : {M : Type 1} → statement M

@@ -8,7 +8,7 @@ use lib.ListN.{length, getD}
 use borrow.Rule.Slice.PartMut.{mid-len, putMid}
 use Rattle.words.specs.Bytes.{tabulate, part}
 use Rattle.words.specs.Xor.{xorEach, xorPart}
-use Rattle.tree.specs.Lanes.{uWord, columnWord}
+use Rattle.tree.specs.WalkWords.{uWord, columnWord}
 use Rattle.words.proofs.Concat.{place-fits}
 use Rattle.words.proofs.Lists.{tabulate-lt, xorEach-length, xorEach-cong}
 use Rattle.words.proofs.Parts.{part-added, xorPart-length}

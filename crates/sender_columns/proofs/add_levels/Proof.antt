@@ -8,21 +8,24 @@ use native.Mathlib.Omega.{arith}
 use lib.ListN.{length, getD}
 use Rattle.words.specs.Bytes.{tabulate, part}
 use Rattle.words.specs.Xor.{xorEach, xorPart}
-use Rattle.tree.specs.Lanes.{columnWord}
+use Rattle.tree.specs.WalkWords.{columnWord}
 use Rattle.words.proofs.Lists.{tabulate-at}
 use Rattle.tree.specs.declared.Stream.{Stream}
 use Rattle.tree.specs.Streams.{wordOf}
-use Rattle.sender_columns.specs.Lanes.{SidesAre}
-use Rattle.sender_columns.proofs.Reached.{Reached, reached-none, reached-next, reached-column}
+use Rattle.sender_columns.specs.FourTrees.{SidesAre}
+use Rattle.sender_columns.proofs.LevelsAdded.{LevelsAdded, levels-none, levels-more, levels-column}
 use Rattle.sender_columns.proofs.add_levels.Statement.{statement}
 use Rattle.sender_columns.proofs.add_levels.Tie as tie
 
+-- the levels before this one are added, whatever numbers the sides are of, and no range has changed its length
+pub record Done (k : ℕ) (stream : Stream) (sides s u₀ u v : List ℕ) (level : ℕ) : Type 0 where
+  pub low : level ≤ k
+  pub u-long : length u ≡ length u₀
+  pub v-long : length v ≡ k * length u₀
+  pub added : (d : ℕ → ℕ) → SidesAre k sides d → LevelsAdded k stream (length u₀) d s u₀ level u v
+
 abbrev Inv-loop : tie.InvT-loop
-Inv-loop k stream sides s u₀ v₀ level₀ u v level =
-    (level ≤ k)
-    × (length u ≡ length u₀)
-    × (length v ≡ k * length u₀)
-    × ((d : ℕ → ℕ) → SidesAre k sides d → Reached k stream (length u₀) d s u₀ level u v)
+Inv-loop k stream sides s u₀ v₀ level₀ u v level = Done k stream sides s u₀ u v level
 
 abbrev μ-loop : tie.MeasureT-loop
 μ-loop k stream sides s u₀ v₀ level₀ u v level = k - level
@@ -30,14 +33,14 @@ abbrev μ-loop : tie.MeasureT-loop
 loop-holds : tie.Need-loop-holds Inv-loop μ-loop
 loop-holds c =
     let s = c .before .before .before .before in
-    (omega arith, refl, s .pre .1 .3, λ d h. reached-none (s .args .k) (s .args .stream) _ d _ _ _ refl (s .pre .1 .3) (s .pre .1 .4))
+    record { low = omega arith; u-long = refl; v-long = s .pre .1 .3; added = λ d h. levels-none (s .args .k) (s .args .stream) _ d _ _ _ refl (s .pre .1 .3) (s .pre .1 .4) }
 
 add-level-requires : tie.Need-add-level-requires Inv-loop μ-loop
 add-level-requires c κs =
     let s = c .before .before .before .before .before .before .before .before in
     let w = c .before .before .before .loop in (
       (c .before .before .loop-test .taken, s .pre .0 .0, s .pre .0 .1, s .pre .0 .2, s .pre .0 .3),
-      (omega (arith, s .pre .1 .0, w .inv .1), omega (arith, s .pre .1 .1, w .inv .1), omega (arith, s .pre .1 .2, w .inv .1), w .inv .2 ∙ ap (λ (n : ℕ). s .args .k * n) (sym (w .inv .1))),
+      (omega (arith, s .pre .1 .0, w .inv .u-long), omega (arith, s .pre .1 .1, w .inv .u-long), omega (arith, s .pre .1 .2, w .inv .u-long), w .inv .v-long ∙ ap (λ (n : ℕ). s .args .k * n) (sym (w .inv .u-long))),
     )
 
 -- v after one level, where a column has n words
@@ -59,31 +62,32 @@ loop-again c =
     let w = c .before .before .before .before .before .before .before .before .loop in
     let f = c .before .before .before .before .add-level in
     let k = s .args .k in
-    let sides = tabulate 4 (λ j. getD (now (s .args .sides)) (j * k + w .level) 0) in (
-      omega (arith, c .before .before .before .before .before .before .before .loop-test .taken),
-      f .kept .1 .1 .1 .1 .1 .0 ∙ w .inv .1,
-      f .kept .1 .1 .1 .1 .1 .1 .0 ∙ w .inv .2,
-      λ d h.
-          reached-next k (s .args .stream) (length (now (s .args .u))) d (now (s .args .s)) (now (s .args .u)) sides (w .level) (w .u) (w .v) _ _
+    let sides = tabulate 4 (λ j. getD (now (s .args .sides)) (j * k + w .level) 0) in
+    record {
+      low = omega (arith, c .before .before .before .before .before .before .before .loop-test .taken);
+      u-long = f .kept .1 .1 .1 .1 .1 .0 ∙ w .inv .u-long;
+      v-long = f .kept .1 .1 .1 .1 .1 .1 .0 ∙ w .inv .v-long;
+      added = λ d h.
+          levels-more k (s .args .stream) (length (now (s .args .u))) d (now (s .args .s)) (now (s .args .u)) sides (w .level) (w .u) (w .v) _ _
           (c .before .before .before .before .before .before .before .loop-test .taken) (λ i lt. h i lt .0)
           (λ i lt. tabulate-at 4 (λ j. getD (now (s .args .sides)) (j * k + w .level) 0) i lt ∙ h i lt .1 (w .level) (c .before .before .before .before .before .before .before .loop-test .taken))
-          (w .inv .3 d h) (f .ensures .0)
-          (f .ensures .1 ∙ ap (λ (n : ℕ). after k (s .args .stream) (w .level) n sides (now (s .args .s)) (w .u) (w .v) (f .last .1 .1 .1 .1 .1 .0)) (w .inv .1)),
-    )
+          (w .inv .added d h) (f .ensures .0)
+          (f .ensures .1 ∙ ap (λ (n : ℕ). after k (s .args .stream) (w .level) n sides (now (s .args .s)) (w .u) (w .v) (f .last .1 .1 .1 .1 .1 .0)) (w .inv .u-long));
+    }
 
 same-length : tie.Need-same-length Inv-loop μ-loop
-same-length c = c .before .loop .inv .1
+same-length c = c .before .loop .inv .u-long
 
 same-length-2 : tie.Need-same-length-2 Inv-loop μ-loop
-same-length-2 c = c .before .loop .inv .2 ∙ sym (c .before .before .before .before .before .before .pre .1 .3)
+same-length-2 c = c .before .loop .inv .v-long ∙ sym (c .before .before .before .before .before .before .pre .1 .3)
 
 returns : tie.Need-returns Inv-loop μ-loop
 returns c d h len i b four cut hi hb =
     let s = c .before .before .before .before .before .before in
     let w = c .before .loop in
-    let all : w .level ≡ s .args .k = omega (arith, w .inv .0, c .loop-test .left) in
-    reached-column (s .args .k) (s .args .stream) (length (now (s .args .u))) len d (now (s .args .s)) (now (s .args .u)) (w .u) (w .v) _ _ i b hi hb four cut
-    refl (subst (λ (l : ℕ). Reached (s .args .k) (s .args .stream) (length (now (s .args .u))) d (now (s .args .s)) (now (s .args .u)) l (w .u) (w .v)) all (w .inv .3 d h)) refl
+    let all : w .level ≡ s .args .k = omega (arith, w .inv .low, c .loop-test .left) in
+    levels-column (s .args .k) (s .args .stream) (length (now (s .args .u))) len d (now (s .args .s)) (now (s .args .u)) (w .u) (w .v) _ _ i b hi hb four cut
+    refl (subst (λ (l : ℕ). LevelsAdded (s .args .k) (s .args .stream) (length (now (s .args .u))) d (now (s .args .s)) (now (s .args .u)) l (w .u) (w .v)) all (w .inv .added d h)) refl
 
 pub add-levels-spec : {M : Type 1} → statement M
 add-levels-spec =

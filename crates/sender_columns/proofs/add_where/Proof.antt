@@ -4,13 +4,13 @@ use mathlib.Core.List.{List, [], _∷_}
 use denote.Ref.{now}
 use Prim.Native.Nat.{ℕ, _+_, _-_, _%_, _≤_, _<_}
 use native.Mathlib.Omega.{arith}
-use lib.Bits.{bitXor}
 use lib.ListN.{length, getD}
 use borrow.Author.Needs.{needs}
 use Rattle.words.proofs.Progress.{Added, updated-none, updated-four, in-set, in-two, in-three}
 use Rattle.sender_columns.proofs.Masked.{masked, masked-at, masked-all}
 use Rattle.sender_columns.proofs.add_where.Statement.{statement}
 use Rattle.sender_columns.proofs.add_where.Tie as tie
+use Rattle.words.specs.Xor.{_⊕_}
 
 abbrev Inv-loop : tie.InvT-loop
 Inv-loop v₀ u m0 m1 m2 m3 i₀ v i = (i % 4 ≡ 0) × (i ≤ length u) × Added v₀ v (masked u (m0 ∷ m1 ∷ m2 ∷ m3 ∷ [])) i
@@ -178,7 +178,7 @@ loop-again c =
     let masks : List ℕ = c .before .before .before .before .before .before .before .before .before .before .before .before .before .mask .result ∷ c .before .before .before .before .before .before .before .before .before .before .before .before .mask2 .result ∷ c .before .before .before .before .before .before .before .before .before .before .before .mask3 .result ∷ c .before .before .before .before .before .before .before .before .before .before .mask4 .result ∷ [] in (
       omega (arith, w .inv .0),
       here .1,
-      updated-four l (w .v) (λ k. bitXor (getD l k 0) (masked u masks k)) i _ _ _ _ (omega (arith, here, w .inv .2 .len))
+      updated-four l (w .v) (λ k. getD l k 0 ⊕ masked u masks k) i _ _ _ _ (omega (arith, here, w .inv .2 .len))
           (masked-at l (w .v) u masks i i 0 (omega arith) (w .inv .0) (w .inv .2))
           (masked-at l (w .v) u masks i (i + 1) 1 (omega arith) (omega (arith, w .inv .0)) (w .inv .2))
           (masked-at l (w .v) u masks i (i + 2) 2 (omega arith) (omega (arith, w .inv .0)) (w .inv .2))

@@ -16,7 +16,7 @@ use Rattle.tree.specs.Streams.{byteOf}
 use Rattle.tree.proofs.TreesFit.{few-trees, four-fit}
 use Rattle.columns.specs.Columns.{senderColumn, senderTable, tableOf, treeCorrection}
 use Rattle.columns.proofs.Tables.{senderColumn-length}
-use Rattle.sender_columns.specs.Lanes.{SidesAre}
+use Rattle.sender_columns.specs.FourTrees.{SidesAre}
 use Rattle.sender_columns.proofs.Groups.{four-sides}
 use Rattle.sender_columns.proofs.all_trees.Statement.{statement}
 use Rattle.sender_columns.proofs.all_trees.Tie as tie
@@ -26,36 +26,42 @@ abbrev treeColumns : ℕ → ℕ → (ℕ → List ℕ → ℕ) → List ℕ →
 treeColumns k len stream siblings delta correction i =
     concat k (senderColumn k stream len (treePart k 32 i siblings) (deltaOf k delta i) (treeCorrection len correction i))
 
+-- the table begins with the columns of the first i trees, whatever delta the sides are of, and no range has changed its length
+pub record Stored (n k : ℕ) (stream : ℕ → List ℕ → ℕ) (len : ℕ) (sides siblings correction : List ℕ) (m : ℕ) (s u v table : List ℕ) (i : ℕ) : Type 0 where
+  pub fours : i % 4 ≡ 0
+  pub s-long : length s ≡ 32 * k
+  pub u-long : length u ≡ m
+  pub v-long : length v ≡ k * m
+  pub table-long : length table ≡ n * (k * len)
+  pub columns : (delta : List ℕ) → sides ≡ sidesOf (n * k) k delta → Laid n (k * len) (treeColumns k len stream siblings delta correction) i table
+
 abbrev Inv-loop : tie.InvT-loop
-Inv-loop n k len stream sides siblings correction s₀ u₀ v₀ table₀ size wide i₀ s u v table i =
-    (i % 4 ≡ 0)
-    × (length s ≡ 32 * k)
-    × (length u ≡ length u₀)
-    × (length v ≡ k * length u₀)
-    × (length table ≡ n * (k * len))
-    × ((delta : List ℕ) → sides ≡ sidesOf (n * k) k delta → Laid n (k * len) (treeColumns k len (byteOf stream) siblings delta correction) i table)
+Inv-loop n k stream len sides siblings correction s₀ u₀ v₀ table₀ size wide i₀ s u v table i =
+    Stored n k (byteOf stream) len sides siblings correction (length u₀) s u v table i
 
 abbrev μ-loop : tie.MeasureT-loop
-μ-loop n k len stream sides siblings correction s₀ u₀ v₀ table₀ size wide i₀ s u v table i = n - i
+μ-loop n k stream len sides siblings correction s₀ u₀ v₀ table₀ size wide i₀ s u v table i = n - i
 
 mul-size : tie.Need-mul-size Inv-loop μ-loop
-mul-size c = omega (arith, c .before .before .before .before .before .before .before .pre .0 .0)
+mul-size c = omega (arith, c .before .before .before .before .before .before .before .pre .0 .0 .shallow)
 
 mul-wide : tie.Need-mul-wide Inv-loop μ-loop
 mul-wide c =
     let s = c .before .before .before .before .before .before .before in
-    omega (arith, mul-le-mul-right (s .args .len) (s .pre .0 .0 .3), s .pre .1 .5, s .pre .1 .2)
+    omega (arith, mul-le-mul-right (s .args .len) (s .pre .0 .0 .shallow), s .pre .1 .1 .room, s .pre .1 .1 .short)
 
 loop-holds : tie.Need-loop-holds Inv-loop μ-loop
 loop-holds c =
-    let s = c .before .before .before .before .before .before .before in (
-      omega arith,
-      s .pre .1 .0,
-      refl,
-      s .pre .1 .4,
-      s .pre .0 .5,
-      λ delta e. laid-none (s .args .n) (s .args .k * s .args .len) _ (now (s .args .table)) (s .pre .0 .5),
-    )
+    let s = c .before .before .before .before .before .before .before in
+    let long = s .pre .0 .2 .table-long in
+    record {
+      fours = refl;
+      s-long = s .pre .1 .0;
+      u-long = refl;
+      v-long = s .pre .1 .1 .columns;
+      table-long = long;
+      columns = λ delta e. laid-none (s .args .n) (s .args .k * s .args .len) _ (now (s .args .table)) long;
+    }
 
 -- four trees from tree i on are within the sides, the siblings, the corrections and the table
 abbrev Room : ℕ → ℕ → ℕ → ℕ → Type 0
@@ -74,15 +80,15 @@ room c =
     let len = s .args .len in
     let i = c .before .loop .i in
     let trees = s .pre .0 .0 in
-    let sides = four-fit n i (trees .1) (c .before .loop .inv .0) (c .loop-test .taken) k in
-    let nodes = four-fit n i (trees .1) (c .before .loop .inv .0) (c .loop-test .taken) (32 * k) in
-    let table = four-fit n i (trees .1) (c .before .loop .inv .0) (c .loop-test .taken) (k * len) in
-    let short : len ≤ 128 = omega (arith, s .pre .1 .2, s .pre .1 .5) in
+    let sides = four-fit n i (trees .fours) (c .before .loop .inv .fours) (c .loop-test .taken) k in
+    let nodes = four-fit n i (trees .fours) (c .before .loop .inv .fours) (c .loop-test .taken) (32 * k) in
+    let table = four-fit n i (trees .fours) (c .before .loop .inv .fours) (c .loop-test .taken) (k * len) in
+    let short : len ≤ 128 = omega (arith, s .pre .1 .1 .short, s .pre .1 .1 .room) in
     let next : i + 3 ≤ n - 1 = omega (arith, sides .0) in (
-      (sides .0, few-trees n k trees, trees .3, short),
-      (sides .1, sides .2, trees .4),
-      (nodes .1, nodes .2, omega (arith, mul-left-comm n 32 k, trees .4)),
-      (table .1, table .2, omega (arith, sym (mul-assoc n k len), mul-le-mul-right len (trees .4), short)),
+      (sides .0, few-trees n k trees, trees .shallow, short),
+      (sides .1, sides .2, trees .few),
+      (nodes .1, nodes .2, omega (arith, mul-left-comm n 32 k, trees .few)),
+      (table .1, table .2, omega (arith, sym (mul-assoc n k len), mul-le-mul-right len (trees .few), short)),
       mul-le-mul-right len next,
     )
 
@@ -114,25 +120,25 @@ part-four-trees-start : tie.Need-part-four-trees-start Inv-loop μ-loop
 part-four-trees-start c = omega (arith, room c)
 
 part-four-trees-end : tie.Need-part-four-trees-end Inv-loop μ-loop
-part-four-trees-end c = omega (arith, room c, c .before .before .before .before .before .before .before .before .before .pre .0)
+part-four-trees-end c = omega (arith, room c, c .before .before .before .before .before .before .before .before .before .pre .0 .1 .sides-long)
 
 sub-four-trees-2 : tie.Need-sub-four-trees-2 Inv-loop μ-loop
-sub-four-trees-2 c = omega (arith, room (c .before), c .before .before .before .before .before .before .before .before .before .before .pre .0)
+sub-four-trees-2 c = omega (arith, room (c .before), c .before .before .before .before .before .before .before .before .before .before .pre .0 .1 .siblings-long)
 
 part-four-trees-start-2 : tie.Need-part-four-trees-start-2 Inv-loop μ-loop
-part-four-trees-start-2 c = omega (arith, room (c .before), c .before .before .before .before .before .before .before .before .before .before .pre .0)
+part-four-trees-start-2 c = omega (arith, room (c .before), c .before .before .before .before .before .before .before .before .before .before .pre .0 .1 .siblings-long)
 
 part-four-trees-end-2 : tie.Need-part-four-trees-end-2 Inv-loop μ-loop
-part-four-trees-end-2 c = omega (arith, room (c .before), c .before .before .before .before .before .before .before .before .before .before .pre .0)
+part-four-trees-end-2 c = omega (arith, room (c .before), c .before .before .before .before .before .before .before .before .before .before .pre .0 .1 .siblings-long)
 
 sub-four-trees-3 : tie.Need-sub-four-trees-3 Inv-loop μ-loop
-sub-four-trees-3 c = omega (arith, room (c .before .before .before .before .before), c .before .before .before .before .before .before .loop .inv .4)
+sub-four-trees-3 c = omega (arith, room (c .before .before .before .before .before), c .before .before .before .before .before .before .loop .inv .table-long)
 
 part-four-trees-start-3 : tie.Need-part-four-trees-start-3 Inv-loop μ-loop
-part-four-trees-start-3 c = omega (arith, room (c .before .before .before .before .before), c .before .before .before .before .before .before .loop .inv .4)
+part-four-trees-start-3 c = omega (arith, room (c .before .before .before .before .before), c .before .before .before .before .before .before .loop .inv .table-long)
 
 part-four-trees-end-3 : tie.Need-part-four-trees-end-3 Inv-loop μ-loop
-part-four-trees-end-3 c = omega (arith, room (c .before .before .before .before .before), c .before .before .before .before .before .before .loop .inv .4)
+part-four-trees-end-3 c = omega (arith, room (c .before .before .before .before .before), c .before .before .before .before .before .before .loop .inv .table-long)
 
 four-trees-requires : tie.Need-four-trees-requires Inv-loop μ-loop
 four-trees-requires c κs =
@@ -147,24 +153,33 @@ four-trees-requires c κs =
     let e : ℕ = w .i * (k * len) in
     let some : (w .i + 4) * k - a ≡ 4 * k = omega (arith, here) in
     let nodes : (w .i + 4) * (32 * k) - b ≡ 4 * (32 * k) = omega (arith, here) in
-    let cells : (w .i + 4) * (k * len) - e ≡ 4 * (k * len) = omega (arith, here) in (
+    let cells : (w .i + 4) * (k * len) - e ≡ 4 * (k * len) = omega (arith, here) in
+    let paths = s .pre .0 .1 in
+    let fits = s .pre .1 .1 in
+    let u = w .inv .u-long in (
       (
-        here .0 .2,
-        part-length a ((w .i + 4) * k - a) sides (omega (arith, here, s .pre .0 .1)) ∙ some,
-        part-lt a ((w .i + 4) * k - a) sides 2 (omega arith) (s .pre .0 .2),
-        part-length b ((w .i + 4) * (32 * k) - b) (now (s .args .siblings)) (omega (arith, here, s .pre .0 .3)) ∙ nodes,
-        omega (arith, here),
-        omega (arith, here, s .pre .0 .4),
-        mid-len e ((w .i + 4) * (k * len)) (w .table) (omega (arith, here, w .inv .4)) ∙ cells,
+        record {
+          sides-long = part-length a ((w .i + 4) * k - a) sides (omega (arith, here, paths .sides-long)) ∙ some;
+          sides-low = part-lt a ((w .i + 4) * k - a) sides 2 (omega arith) (paths .sides-low);
+          siblings-long = part-length b ((w .i + 4) * (32 * k) - b) (now (s .args .siblings)) (omega (arith, here, paths .siblings-long)) ∙ nodes;
+        },
+        record {
+          early = omega (arith, here);
+          correction-long = omega (arith, here, s .pre .0 .2 .correction-long);
+          table-long = mid-len e ((w .i + 4) * (k * len)) (w .table) (omega (arith, here, w .inv .table-long)) ∙ cells;
+        },
       ),
       (
-        w .inv .1,
-        omega (arith, w .inv .2, s .pre .1 .1),
-        omega (arith, w .inv .2, s .pre .1 .2),
-        omega (arith, w .inv .2, s .pre .1 .3),
-        w .inv .3 ∙ ap (λ (n : ℕ). k * n) (sym (w .inv .2)),
-        omega (arith, w .inv .2, s .pre .1 .5),
-        s .pre .1 .6,
+        w .inv .s-long,
+        record {
+          shallow = fits .shallow;
+          whole = fits .whole;
+          some = fits .some;
+          blocks = omega (arith, u, fits .blocks);
+          short = omega (arith, u, fits .short);
+          room = omega (arith, u, fits .room);
+          columns = w .inv .v-long ∙ ap (λ (n : ℕ). k * n) (sym u);
+        },
       ),
     )
 
@@ -184,13 +199,14 @@ loop-again c =
     let sides = now (s .args .sides) in
     let siblings = now (s .args .siblings) in
     let correction = now (s .args .correction) in
-    let e : ℕ = w .i * (k * len) in (
-      omega (arith, w .inv .0),
-      f .kept .1 .1 .1 .1 .1 .1 .1 .0 ∙ w .inv .1,
-      f .kept .1 .1 .1 .1 .1 .1 .1 .1 .0 ∙ w .inv .2,
-      f .kept .1 .1 .1 .1 .1 .1 .1 .1 .1 .0 ∙ w .inv .3,
-      same-len-mid e ((w .i + 4) * (k * len) - e) (w .table) (f .last .1 .1 .1 .1 .1 .1 .1 .1 .1 .1 .0) (f .kept .1 .1 .1 .1 .1 .1 .1 .1 .1 .1 .0) ∙ w .inv .4,
-      λ delta q.
+    let e : ℕ = w .i * (k * len) in
+    record {
+      fours = omega (arith, w .inv .fours);
+      s-long = f .kept .1 .1 .1 .1 .1 .1 .1 .0 ∙ w .inv .s-long;
+      u-long = f .kept .1 .1 .1 .1 .1 .1 .1 .1 .0 ∙ w .inv .u-long;
+      v-long = f .kept .1 .1 .1 .1 .1 .1 .1 .1 .1 .0 ∙ w .inv .v-long;
+      table-long = same-len-mid e ((w .i + 4) * (k * len) - e) (w .table) (f .last .1 .1 .1 .1 .1 .1 .1 .1 .1 .1 .0) (f .kept .1 .1 .1 .1 .1 .1 .1 .1 .1 .1 .0) ∙ w .inv .table-long;
+      columns = λ delta q.
           let column : ℕ → List ℕ → ℕ → List ℕ = λ j z b. senderColumn k stream len z (deltaOf k delta (w .i + j)) (treeCorrection len correction (w .i + j)) b in
           let made =
           f .ensures (λ j. deltaOf k delta (w .i + j))
@@ -199,27 +215,27 @@ loop-again c =
           ∙ concat-same 4 _ (λ j. treeColumns k len stream siblings delta correction (w .i + j))
           (λ j hj. concat-same k _ _ (λ b hb. ap (λ (z : List ℕ). column j z b) (place-part (w .i) 4 j (32 * k) siblings hj))) in
           laid-more n (k * len) (treeColumns k len stream siblings delta correction) (w .i) 4 (w .table) _ made
-          (λ j h. concat-length _ len k (λ b hb. senderColumn-length k stream len _ _ _ b)) (here .0 .0) (w .inv .5 delta q),
-    )
+          (λ j h. concat-length _ len k (λ b hb. senderColumn-length k stream len _ _ _ b)) (here .0 .0) (w .inv .columns delta q);
+    }
 
 same-length : tie.Need-same-length Inv-loop μ-loop
-same-length c = c .before .loop .inv .1 ∙ sym (c .before .before .before .before .before .before .before .before .before .pre .1 .0)
+same-length c = c .before .loop .inv .s-long ∙ sym (c .before .before .before .before .before .before .before .before .before .pre .1 .0)
 
 same-length-2 : tie.Need-same-length-2 Inv-loop μ-loop
-same-length-2 c = c .before .loop .inv .2
+same-length-2 c = c .before .loop .inv .u-long
 
 same-length-3 : tie.Need-same-length-3 Inv-loop μ-loop
-same-length-3 c = c .before .loop .inv .3 ∙ sym (c .before .before .before .before .before .before .before .before .before .pre .1 .4)
+same-length-3 c = c .before .loop .inv .v-long ∙ sym (c .before .before .before .before .before .before .before .before .before .pre .1 .1 .columns)
 
 same-length-4 : tie.Need-same-length-4 Inv-loop μ-loop
-same-length-4 c = c .before .loop .inv .4 ∙ sym (c .before .before .before .before .before .before .before .before .before .pre .0 .5)
+same-length-4 c = c .before .loop .inv .table-long ∙ sym (c .before .before .before .before .before .before .before .before .before .pre .0 .2 .table-long)
 
 returns : tie.Need-returns Inv-loop μ-loop
 unfolding senderTable tableOf
 returns c delta q =
     let s = c .before .before .before .before .before .before .before .before .before in
     let w = c .before .loop in
-    laid-all (s .args .n) (s .args .k * s .args .len) _ (w .i) (w .table) (omega (arith, c .loop-test .left)) (w .inv .5 delta q)
+    laid-all (s .args .n) (s .args .k * s .args .len) _ (w .i) (w .table) (omega (arith, c .loop-test .left)) (w .inv .columns delta q)
 
 pub all-trees-spec : {M : Type 1} → statement M
 all-trees-spec =

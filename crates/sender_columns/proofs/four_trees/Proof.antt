@@ -14,7 +14,7 @@ use Rattle.words.proofs.Concat.{part-lt, concat-same}
 use Rattle.tree.specs.Layout.{treePart}
 use Rattle.columns.specs.Columns.{senderColumn, treeCorrection}
 use Rattle.tree.specs.Streams.{byteOf}
-use Rattle.sender_columns.specs.Lanes.{LaneHas}
+use Rattle.sender_columns.specs.FourTrees.{LaneHas}
 use Rattle.sender_columns.proofs.Groups.{lanes-front, same-correction}
 use Rattle.sender_columns.proofs.four_trees.Statement.{statement}
 use Rattle.sender_columns.proofs.four_trees.Tie as tie
@@ -41,11 +41,11 @@ load-corrections-requires c κs =
     let clear = c .before .before .before .before .before .before .before .clear in
     let cleared = clear .last .0 in
     let cut : len - 0 ≡ len = omega arith in
-    let mid : length (midOf 0 (len - 0) cleared) ≡ len = mid-len 0 len cleared (omega (arith, clear .kept .0, s .pre .1 .5)) ∙ cut in
+    let mid : length (midOf 0 (len - 0) cleared) ≡ len = mid-len 0 len cleared (omega (arith, clear .kept .0, s .pre .1 .1 .room)) ∙ cut in
     let zero : (j : ℕ) → getD cleared j 0 ≡ 0 = λ j. ap (λ (z : List ℕ). getD z j 0) (clear .ensures) ∙ zeros-at (length (now (s .args .u))) j in (
-      s .pre .0 .4,
-      omega (arith, mid, s .pre .1 .6),
-      omega (arith, ap (λ (m : ℕ). (s .args .i + 3) * m) mid, s .pre .0 .5),
+      s .pre .0 .1 .early,
+      omega (arith, mid, s .pre .1 .1 .whole),
+      omega (arith, ap (λ (m : ℕ). (s .args .i + 3) * m) mid, s .pre .0 .1 .correction-long),
       λ j.
           let low : getD (part 0 (len - 0) cleared) j 0 < 1 = part-lt 0 (len - 0) cleared 1 (omega arith) (λ j. rw (zero j) (omega arith)) j in
           omega (arith, low),
@@ -69,10 +69,10 @@ loaded c =
     let ys = c .load-corrections .last .1 .1 .0 in
     let kept = c .load-corrections .kept .1 .1 .0 in
     let cut : len - 0 ≡ len = omega arith in
-    let mid : length (midOf 0 (len - 0) cleared) ≡ len = mid-len 0 len cleared (omega (arith, all, s .pre .1 .5)) ∙ cut in (
+    let mid : length (midOf 0 (len - 0) cleared) ≡ len = mid-len 0 len cleared (omega (arith, all, s .pre .1 .1 .room)) ∙ cut in (
       same-len-mid 0 (len - 0) cleared ys kept ∙ all,
       λ l h x lt.
-          ap (λ (z : List ℕ). getD z x 0) (lanes-front l len ys (postOf 0 (len - 0) cleared) (s .pre .1 .6) h (kept ∙ mid))
+          ap (λ (z : List ℕ). getD z x 0) (lanes-front l len ys (postOf 0 (len - 0) cleared) (s .pre .1 .1 .whole) h (kept ∙ mid))
           ∙ subst (λ (m : ℕ). LaneHas m l (treeCorrection m (now (s .args .correction)) (s .args .i + l)) ys) mid (c .load-corrections .ensures l h) x lt,
     )
 
@@ -81,12 +81,12 @@ add-levels-requires c κs =
     let s = c .before .before .before .before .before .before .before .before .before .before .before .before .before .before .before .before .before .before .before .before .before .before .before .before .before .before in
     let long = loaded (c .before .before .before .before .before .before .before .before .before) .0 in
     let clear = c .before .before .before .before .before .before .before .before .before .before .before .before .before .clear2 in (
-      (s .pre .0 .0, s .pre .0 .1, s .pre .0 .2, c .before .before .before .before .before .load-lanes .kept .0 ∙ s .pre .1 .0),
+      (s .pre .1 .1 .shallow, s .pre .0 .0 .sides-long, s .pre .0 .0 .sides-low, c .before .before .before .before .before .load-lanes .kept .0 ∙ s .pre .1 .0),
       (
-        omega (arith, long, s .pre .1 .1),
-        omega (arith, long, s .pre .1 .2),
-        omega (arith, long, s .pre .1 .3),
-        clear .kept .0 ∙ s .pre .1 .4 ∙ ap (λ (n : ℕ). s .args .k * n) (sym long),
+        omega (arith, long, s .pre .1 .1 .blocks),
+        omega (arith, long, s .pre .1 .1 .short),
+        omega (arith, long, s .pre .1 .1 .some, s .pre .1 .1 .room),
+        clear .kept .0 ∙ s .pre .1 .1 .columns ∙ ap (λ (n : ℕ). s .args .k * n) (sym long),
         λ i. ap (λ (z : List ℕ). getD z i 0) (clear .ensures) ∙ zeros-at (length (now (s .args .v))) i,
       ),
     )
@@ -96,9 +96,9 @@ store-trees-requires c κs =
     let s = c .before .before .before .before .before .before .before .before .before .before .before .before .before .before .before .before .before .before .before .before .before .before .before .before .before .before .before .before .before .before .before .before .before in
     let done = c .before .before .before .before .before .before .add-levels in
     let long = done .kept .1 .1 .1 .1 .0 ∙ loaded (c .before .before .before .before .before .before .before .before .before .before .before .before .before .before .before .before) .0 in
-    let all = done .kept .1 .1 .1 .1 .1 .0 ∙ c .before .before .before .before .before .before .before .before .before .before .before .before .before .before .before .before .before .before .before .before .clear2 .kept .0 ∙ s .pre .1 .4 ∙ ap (λ (n : ℕ). s .args .k * n) (sym long) in (
-      (s .pre .0 .0, omega (arith, long, s .pre .1 .5), omega (arith, long, s .pre .1 .2), s .pre .1 .6),
-      (omega (arith, all), s .pre .0 .6),
+    let all = done .kept .1 .1 .1 .1 .1 .0 ∙ c .before .before .before .before .before .before .before .before .before .before .before .before .before .before .before .before .before .before .before .before .clear2 .kept .0 ∙ s .pre .1 .1 .columns ∙ ap (λ (n : ℕ). s .args .k * n) (sym long) in (
+      (s .pre .1 .1 .shallow, omega (arith, long, s .pre .1 .1 .room), omega (arith, long, s .pre .1 .1 .short), s .pre .1 .1 .whole),
+      (omega (arith, all), s .pre .0 .1 .table-long),
     )
 
 same-length : tie.Need-same-length
@@ -131,7 +131,7 @@ returns c d h =
     concat-same k _ _
     (λ b hb.
     ap (λ (n : ℕ). laneBytes i (len / 4) (part (b * n) len v)) (done .kept .1 .1 .1 .1 .0)
-    ∙ done .ensures d h len i b (s .pre .1 .6) (omega (arith, u .0, s .pre .1 .5)) hi hb
+    ∙ done .ensures d h len i b (s .pre .1 .1 .whole) (omega (arith, u .0, s .pre .1 .1 .room)) hi hb
     ∙ ap (λ (x : List ℕ). senderColumn k (byteOf (s .args .stream)) len x (d i) had b)
     (ap (λ (n : ℕ). laneBytes i n (siblings .last .0)) (sym words)
     ∙ siblings .ensures i hi

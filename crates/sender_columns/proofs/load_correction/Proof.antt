@@ -1,14 +1,11 @@
 -- `sender_columns::load_correction` meets its contract: a tree that has none leaves its lane zero. Assumes nothing.
-use mathlib.Core.Path.{_≡_, refl, sym, ap, _∙_, subst}
-use mathlib.Core.List.{List, []}
-use Prim.Native.Nat.{ℕ, _+_, _-_, _*_, _/_, _%_, _≤_, _<_}
-use native.Mathlib.Nat.{add-mul, mul-le-mul-right}
+use mathlib.Core.Path.{refl, sym, ap, _∙_}
+use mathlib.Core.List.{List}
+use Prim.Native.Nat.{ℕ, _-_, _*_}
 use native.Mathlib.Omega.{arith}
 use denote.Ref.{now}
 use lib.ListN.{length, getD}
-use Rattle.words.specs.Bytes.{part}
 use Rattle.words.proofs.Concat.{part-length}
-use Rattle.columns.specs.Columns.{treeCorrection}
 use Rattle.sender_columns.proofs.Groups.{one-fits, none-there, own-part}
 use Rattle.sender_columns.proofs.load_correction.Statement.{statement}
 use Rattle.sender_columns.proofs.load_correction.Tie as tie

@@ -1,12 +1,11 @@
 -- `sender_columns::load_corrections` meets its contract: those of four later trees stand one after the other. Assumes nothing.
-use mathlib.Core.Path.{_≡_, refl, sym, ap, _∙_, subst}
-use mathlib.Core.List.{List, []}
-use Prim.Native.Nat.{ℕ, _+_, _-_, _*_, _/_, _%_, _≤_, _<_}
+use mathlib.Core.Path.{_≡_, ap, _∙_}
+use mathlib.Core.List.{List}
+use Prim.Native.Nat.{ℕ, _+_, _-_, _*_, _≤_, _<_}
 use native.Mathlib.Nat.{add-mul, mul-le-mul-right}
 use native.Mathlib.Omega.{arith}
 use denote.Ref.{now}
 use lib.ListN.{length, getD}
-use Rattle.words.specs.Bytes.{part}
 use Rattle.words.proofs.Concat.{part-length}
 use Rattle.sender_columns.proofs.Groups.{next-part}
 use Rattle.sender_columns.proofs.load_corrections.Statement.{statement}

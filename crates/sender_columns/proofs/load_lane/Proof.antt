@@ -13,16 +13,18 @@ use Rattle.words.proofs.LaneBytes.{laneBytes-length, laneBytes-at, lane-is, wor
 use Rattle.sender_columns.proofs.load_lane.Statement.{statement}
 use Rattle.sender_columns.proofs.load_lane.Tie as tie
 
+pub record Loaded (t₀ : List ℕ) (l : ℕ) (s : List ℕ) (n : ℕ) (t : List ℕ) (i : ℕ) : Type 0 where
+  pub fours : i % 4 ≡ 0
+  pub low : i ≤ n
+  pub long : length t ≡ length t₀
+  pub lane : (j : ℕ) → j % 4 ≡ l → j < i → getD t j 0 ≡ word32 s (j - l)
+  pub others : (j : ℕ) → (j % 4 ≡ l → ⊥) → getD t j 0 ≡ getD t₀ j 0
+
 abbrev Inv-loop : tie.InvT-loop
-Inv-loop t₀ s l n i₀ t i =
-    (i % 4 ≡ 0)
-    × (i ≤ n)
-    × (length t ≡ length t₀)
-    × ((j : ℕ) → j % 4 ≡ l → j < i → getD t j 0 ≡ word32 s (j - l))
-    × ((j : ℕ) → (j % 4 ≡ l → ⊥) → getD t j 0 ≡ getD t₀ j 0)
+Inv-loop t₀ l s n i₀ t i = Loaded t₀ l s n t i
 
 abbrev μ-loop : tie.MeasureT-loop
-μ-loop t₀ s l n i₀ t i = n - i
+μ-loop t₀ l s n i₀ t i = n - i
 
 -- one word more
 loaded : (s t : List ℕ) (i l x : ℕ) → l < 4 → i % 4 ≡ 0 → i + l < length t → x ≡ word32 s i → ((j : ℕ) → j % 4 ≡ l → j < i → getD t j 0 ≡ word32 s (j - l))
@@ -36,22 +38,23 @@ loaded s t i l x hl hi fits made had j e lt = here (ℕ-discrete j (i + l))
     here (no ne) = getD-set-other t (i + l) j x 0 ne ∙ had j e (omega arith)
 
 loop-holds : tie.Need-loop-holds Inv-loop μ-loop
-loop-holds c = (refl, omega arith, refl, λ j e lt. absurd (omega arith), λ j ne. refl)
+loop-holds c =
+    record { fours = refl; low = omega arith; long = refl; lane = λ j e lt. absurd (omega arith); others = λ j ne. refl }
 
 load32-requires : tie.Need-load32-requires Inv-loop μ-loop
-load32-requires c κs = omega (arith, c .before .before .before .before .pre, c .before .loop .inv .0, c .loop-test .taken)
+load32-requires c κs = omega (arith, c .before .before .before .before .pre, c .before .loop .inv .fours, c .loop-test .taken)
 
 add-t : tie.Need-add-t Inv-loop μ-loop
-add-t c = omega (arith, c .before .before .before .before .before .pre, c .before .before .before .before .before .good, c .before .before .loop .inv .1, c .before .loop-test .taken)
+add-t c = omega (arith, c .before .before .before .before .before .pre, c .before .before .before .before .before .good, c .before .before .loop .inv .low, c .before .loop-test .taken)
 
 mul-t : tie.Need-mul-t Inv-loop μ-loop
-mul-t c = omega (arith, c .before .before .before .before .before .pre, c .before .before .before .before .before .good, c .before .before .loop .inv .0, c .before .before .loop .inv .1, c .before .loop-test .taken)
+mul-t c = omega (arith, c .before .before .before .before .before .pre, c .before .before .before .before .before .good, c .before .before .loop .inv .fours, c .before .before .loop .inv .low, c .before .loop-test .taken)
 
 slice-write-t : tie.Need-slice-write-t Inv-loop μ-loop
-slice-write-t c = omega (arith, c .before .before .before .before .before .pre, c .before .before .loop .inv .0, c .before .before .loop .inv .2, c .before .loop-test .taken)
+slice-write-t c = omega (arith, c .before .before .before .before .before .pre, c .before .before .loop .inv .fours, c .before .before .loop .inv .long, c .before .loop-test .taken)
 
 add-i : tie.Need-add-i Inv-loop μ-loop
-add-i c = omega (arith, c .before .before .before .before .before .pre, c .before .before .before .before .before .good, c .before .before .loop .inv .0, c .before .before .loop .inv .1, c .before .loop-test .taken)
+add-i c = omega (arith, c .before .before .before .before .before .pre, c .before .before .before .before .before .good, c .before .before .loop .inv .fours, c .before .before .loop .inv .low, c .before .loop-test .taken)
 
 loop-less : tie.Need-loop-less Inv-loop μ-loop
 loop-less c = omega (arith, c .before .loop-test .taken)
@@ -61,16 +64,17 @@ loop-again c =
     let s = c .before .before .before .before .before in
     let w = c .before .before .loop in
     let l = s .args .l in
-    let here : w .i + l < length (w .t) = omega (arith, s .pre, w .inv .0, w .inv .2, c .before .loop-test .taken) in (
-      omega (arith, w .inv .0),
-      omega (arith, s .pre, w .inv .0, w .inv .1, c .before .loop-test .taken),
-      length-set (w .t) (w .i + l) (c .load32 .result) ∙ w .inv .2,
-      λ j e lt. loaded (now (s .args .s)) (w .t) (w .i) l (c .load32 .result) (s .pre .0) (w .inv .0) here (c .load32 .ensures) (w .inv .3) j e lt,
-      λ j ne. getD-set-other (w .t) (w .i + l) j (c .load32 .result) 0 (λ q. ne (omega (arith, q, w .inv .0, s .pre .0))) ∙ w .inv .4 j ne,
-    )
+    let here : w .i + l < length (w .t) = omega (arith, s .pre, w .inv .fours, w .inv .long, c .before .loop-test .taken) in
+    record {
+      fours = omega (arith, w .inv .fours);
+      low = omega (arith, s .pre, w .inv .fours, w .inv .low, c .before .loop-test .taken);
+      long = length-set (w .t) (w .i + l) (c .load32 .result) ∙ w .inv .long;
+      lane = λ j e lt. loaded (now (s .args .s)) (w .t) (w .i) l (c .load32 .result) (s .pre .0) (w .inv .fours) here (c .load32 .ensures) (w .inv .lane) j e lt;
+      others = λ j ne. getD-set-other (w .t) (w .i + l) j (c .load32 .result) 0 (λ q. ne (omega (arith, q, w .inv .fours, s .pre .0))) ∙ w .inv .others j ne;
+    }
 
 same-length : tie.Need-same-length Inv-loop μ-loop
-same-length c = c .before .loop .inv .2
+same-length c = c .before .loop .inv .long
 
 returns : tie.Need-returns Inv-loop μ-loop
 returns c =
@@ -85,13 +89,13 @@ returns c =
           let back : 4 * (x / 4) + l - l ≡ 4 * (x / 4) = omega arith in
           let whole : 4 * (x / 4) + x % 4 ≡ x = omega arith in
           ap (λ (v : ℕ). getD (bytes 4 v) (x % 4) 0)
-          (w .inv .3 (4 * (x / 4) + l) (omega (arith, s .pre .0)) (omega (arith, s .pre, w .inv .0, c .loop-test .left)) ∙ ap (word32 from) back)
+          (w .inv .lane (4 * (x / 4) + l) (omega (arith, s .pre .0)) (omega (arith, s .pre, w .inv .fours, c .loop-test .left)) ∙ ap (word32 from) back)
           ∙ word-bytes from (λ i. c .before .before .shared-slice-known .given i .fits) (4 * (x / 4)) (x % 4) (omega arith)
           ∙ ap (λ (i : ℕ). getD from i 0) whole),
       λ m hm ne.
           lane-is m (n / 4) (w .t) (laneBytes m (n / 4) t) (laneBytes-length m (n / 4) t)
           (λ x h.
-          ap (λ (v : ℕ). getD (bytes 4 v) (x % 4) 0) (w .inv .4 (4 * (x / 4) + m) (λ q. ne (omega (arith, q, s .pre .0))))
+          ap (λ (v : ℕ). getD (bytes 4 v) (x % 4) 0) (w .inv .others (4 * (x / 4) + m) (λ q. ne (omega (arith, q, s .pre .0))))
           ∙ sym (laneBytes-at m (n / 4) t x h)),
     )
 

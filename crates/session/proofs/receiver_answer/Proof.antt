@@ -12,7 +12,7 @@ use Rattle.sizes.specs.Sizes.{columns, columnLength, tableLength, checkMessageL
 use Rattle.consistency.specs.Message.{checkMessage}
 use Rattle.pads.specs.Pads.{receiverPads}
 use Rattle.rules.specs.Orders.{withoutBatch}
-use Rattle.rules.proofs.Fits.{answer-fits}
+use Rattle.rules.proofs.Fits.{AnswerTells, answer-fits}
 use Rattle.session.proofs.receiver_answer.Statement.{statement}
 use Rattle.session.proofs.receiver_answer.Tie as tie
 
@@ -31,9 +31,7 @@ refused c = sym (c .before .is-done .ensures) ∙ c .if1 .left
 -- what an answer of done tells
 fits : (c : tie.Then1)
     → let a = c .before .before .before .before .before .before .before .args in
-    let blocks = a .r .blocks in
-    (blocks ≤ 15) × (length (now (a .choices)) ≡ columnLength blocks) × (length (now (a .table)) ≡ tableLength blocks)
-    × (length (now (a .message)) ≡ checkMessageLength) × (length (now (a .pads)) ≡ receiverPadsLength blocks)
+    AnswerTells (a .r) (length (now (a .choices))) (length (now (a .table))) (length (now (a .message))) (length (now (a .pads)))
 fits c =
     let a = c .before .before .before .before .before .before .before .args in
     answer-fits (a .r) (length (now (a .choices))) (length (now (a .table))) (length (now (a .message))) (length (now (a .pads)))
@@ -42,7 +40,7 @@ fits c =
 write-message-requires : tie.Need-write-message-requires
 write-message-requires c κs =
     let h = fits (c .before) in
-    (refl, h .2 ∙ ap (λ (n : ℕ). columns * n) (sym (h .1)), h .3)
+    (refl, h .table-long ∙ ap (λ (n : ℕ). columns * n) (sym (h .choices-long)), h .message-long)
 
 cast-receiver-pads : tie.Need-cast-receiver-pads
 cast-receiver-pads c = search needs
@@ -53,7 +51,7 @@ cast-receiver-pads-2 c = search needs
 receiver-pads-requires : tie.Need-receiver-pads-requires
 receiver-pads-requires c κs =
     let h = fits (c .before .before .before .before .before .before .before) in
-    (h .0, h .2, h .4)
+    (h .few, h .table-long, h .pads-long)
 
 without-batch-requires : tie.Need-without-batch-requires
 without-batch-requires c κs = search needs
@@ -73,7 +71,7 @@ returns c =
     record {
       answered = x .ensures;
       recorded = c .without-batch .ensures ∙ sym (new-when (x .result) (withoutBatch (a .r)) (a .r) (done t));
-      told = c .before .before .before .before .before .before .before .before .before .write-message .ensures ∙ ap told (fits t .1) ∙ sym (new-when (x .result) (told (columnLength (a .r .blocks))) (now (a .message)) (done t));
+      told = c .before .before .before .before .before .before .before .before .before .write-message .ensures ∙ ap told (fits t .choices-long) ∙ sym (new-when (x .result) (told (columnLength (a .r .blocks))) (now (a .message)) (done t));
       padded = c .before .before .before .receiver-pads .ensures ∙ sym (new-when (x .result) (receiverPads columns (a .r .blocks) (a .r .last) (now (a .table))) (now (a .pads)) (done t));
     }
 

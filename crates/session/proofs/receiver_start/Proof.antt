@@ -1,11 +1,12 @@
 -- `session::receiver_start` meets its contract: the columns are made where the answer is done, and else all is left. Assumes nothing.
-use mathlib.Core.Path.{_≡_, sym, ap, ap₂, _∙_, subst}
+use mathlib.Core.Path.{_≡_, refl, sym, ap, ap₂, _∙_, subst}
 use mathlib.Core.Bool.{true, false}
 use denote.Ref.{now}
 use Prim.Native.Nat.{ℕ, _-_, _*_, _≤_}
 use native.Mathlib.Nat.{mul-assoc}
 use native.Mathlib.Omega.{arith}
 use lib.ListN.{length}
+use Rattle.words.specs.Bytes.{Range}
 use borrow.Author.Needs.{needs}
 use Rattle.answer.specs.Answer.{isDone}
 use Rattle.answer.proofs.Order.{new-when, old-when}
@@ -16,7 +17,7 @@ use Rattle.tree.proofs.TreesFit.{trees-fit}
 use Rattle.sizes.specs.Sizes.{widthAllowed, treesOf, columnLength, rootsLength, tableLength, correctionLength}
 use Rattle.columns.specs.Columns.{choicesOf, receiverTable, correctionOf}
 use Rattle.rules.specs.Orders.{withBatch}
-use Rattle.rules.proofs.Fits.{start-fits}
+use Rattle.rules.proofs.Fits.{StartTells, start-fits}
 use Rattle.session.proofs.receiver_start.Statement.{statement}
 use Rattle.session.proofs.receiver_start.Tie as tie
 
@@ -35,10 +36,7 @@ refused c = sym (c .before .is-done .ensures) ∙ c .if1 .left
 -- what an answer of done tells
 fits : (c : tie.Then1)
     → let a = c .before .before .before .before .before .before .before .args in
-    let k = a .r .width in
-    (widthAllowed k ≡ true) × (a .blocks ≤ 15) × (length (now (a .roots)) ≡ rootsLength k)
-    × (length (now (a .choices)) ≡ columnLength (a .blocks)) × (length (now (a .table)) ≡ tableLength (a .blocks))
-    × (length (now (a .correction)) ≡ correctionLength k (a .blocks))
+    StartTells (a .r) (a .blocks) (length (now (a .roots))) (length (now (a .choices))) (length (now (a .table))) (length (now (a .correction)))
 fits c =
     let a = c .before .before .before .before .before .before .before .args in
     start-fits (a .r) (a .batch) (a .blocks) (length (now (a .roots))) (length (now (a .choices))) (length (now (a .table))) (length (now (a .correction)))
@@ -50,24 +48,28 @@ trees-of-requires c κs = search needs
 cast-start : tie.Need-cast-start
 cast-start c = search needs
 
+stream-of-requires : tie.Need-stream-of-requires
+stream-of-requires c κs = search needs
+
 start-requires : tie.Need-start-requires
 start-requires c κs =
-    let t = c .before .before .before .before .before in
+    let t = c .before .before .before .before .before .before in
     let h = fits t in
     let a = t .before .before .before .before .before .before .before .args in
     let k = a .r .width in
     let len = columnLength (a .blocks) in
-    let count = c .before .before .before .before .trees-of .ensures in (
-      subst (λ (n : ℕ). TreesFit n k) (sym count) (trees-fit k (h .0)),
-      omega (arith, h .2, count),
-      omega (arith, h .3),
-      omega (arith, h .3),
-      omega (arith, h .3, h .1),
-      h .4
-          ∙ ap (λ (c : ℕ). c * len) (sym (width-fits k (h .0) .columns))
-          ∙ mul-assoc (treesOf k) k len
-          ∙ ap₂ (λ (n m : ℕ). n * (k * m)) (sym count) (sym (h .3)),
-      h .5 ∙ ap₂ (λ (n m : ℕ). (n - 1) * m) (sym count) (sym (h .3)),
+    let count = c .before .before .before .before .before .trees-of .ensures in (
+      record { words = omega (arith, h .choices-long); some = omega (arith, h .choices-long); short = omega (arith, h .choices-long, h .few) },
+      record {
+        trees = subst (λ (n : ℕ). TreesFit n k) (sym count) (trees-fit k (h .width));
+        roots-long = omega (arith, h .roots-long, count);
+        choices-long = refl;
+        correction-long = h .correction-long ∙ ap₂ (λ (n m : ℕ). (n - 1) * m) (sym count) (sym (h .choices-long));
+        table-long = h .table-long
+            ∙ ap (λ (c : ℕ). c * len) (sym (width-fits k (h .width) .columns))
+            ∙ mul-assoc (treesOf k) k len
+            ∙ ap₂ (λ (n m : ℕ). n * (k * m)) (sym count) (sym (h .choices-long));
+      },
     )
 
 with-batch-requires : tie.Need-with-batch-requires
@@ -84,7 +86,9 @@ same-length-3 c = search needs
 
 returns : tie.Need-returns
 returns c =
-    let m = c .before .before .before .before .before .before .before .before .before .before .before .before in
+    let started = c .before .before .before .before .before .before .before in
+    let drawn = started .before .before .before .before in
+    let m = drawn .before .before in
     let t = m .before in
     let a = t .before .before .before .before .before .before .before .args in
     let x = t .before .before .receiver-start in
@@ -92,15 +96,24 @@ returns c =
     let stream = streamByte (a .batch) in
     let roots = now (a .roots) in
     let len = columnLength (a .blocks) in
-    let long = fits t .3 in
+    let long = fits t .choices-long in
     let count = m .trees-of .ensures in
-    let made = c .before .before .before .before .before .before .before .start .ensures in
+    let made = started .start .ensures in
+    let same = drawn .stream-of .ensures in
     record {
       answered = x .ensures;
       recorded = c .with-batch .ensures ∙ sym (new-when (x .result) (withBatch (a .r) (a .batch) (a .blocks)) (a .r) (done t));
-      chosen = made .0 ∙ ap (λ (l : ℕ). choicesOf k stream l roots) long ∙ sym (new-when (x .result) (choicesOf k stream len roots) (now (a .choices)) (done t));
-      filled = made .1 .0 ∙ ap₂ (λ (n l : ℕ). receiverTable n k stream l roots) count long ∙ sym (new-when (x .result) (receiverTable (treesOf k) k stream len roots) (now (a .table)) (done t));
-      corrected = made .1 .1 ∙ ap₂ (λ (n l : ℕ). correctionOf n k stream l roots) count long ∙ sym (new-when (x .result) (correctionOf (treesOf k) k stream len roots) (now (a .correction)) (done t));
+      chosen = made .0
+          ∙ ap₂ (λ (f : ℕ → Range → ℕ) (l : ℕ). choicesOf k f l roots) same long
+          ∙ sym (new-when (x .result) (choicesOf k stream len roots) (now (a .choices)) (done t));
+      filled = made .1 .0
+          ∙ ap₂ (λ (f : ℕ → Range → ℕ) (l : ℕ). receiverTable (m .trees-of .result) k f l roots) same long
+          ∙ ap (λ (n : ℕ). receiverTable n k stream len roots) count
+          ∙ sym (new-when (x .result) (receiverTable (treesOf k) k stream len roots) (now (a .table)) (done t));
+      corrected = made .1 .1
+          ∙ ap₂ (λ (f : ℕ → Range → ℕ) (l : ℕ). correctionOf (m .trees-of .result) k f l roots) same long
+          ∙ ap (λ (n : ℕ). correctionOf n k stream len roots) count
+          ∙ sym (new-when (x .result) (correctionOf (treesOf k) k stream len roots) (now (a .correction)) (done t));
     }
 
 returns-2 : tie.Need-returns-2
@@ -127,6 +140,7 @@ receiver-start-spec =
     is-done-requires
     trees-of-requires
     cast-start
+    stream-of-requires
     start-requires
     with-batch-requires
     same-length

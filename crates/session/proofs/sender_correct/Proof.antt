@@ -2,11 +2,11 @@
 use mathlib.Core.Path.{_≡_, sym, ap, ap₂, _∙_, subst}
 use mathlib.Core.Bool.{true, false}
 use denote.Ref.{now}
-use mathlib.Core.List.{List}
 use Prim.Native.Nat.{ℕ, _-_, _*_, _≤_}
 use native.Mathlib.Nat.{mul-assoc}
 use native.Mathlib.Omega.{arith}
 use lib.ListN.{length}
+use Rattle.words.specs.Bytes.{Range}
 use borrow.Author.Needs.{needs}
 use Rattle.answer.specs.Answer.{isDone}
 use Rattle.answer.proofs.Order.{new-when, old-when}
@@ -17,7 +17,7 @@ use Rattle.tree.proofs.TreesFit.{trees-fit}
 use Rattle.sizes.specs.Sizes.{widthAllowed, treesOf, columnLength, deltaLength, siblingsLength, tableLength, correctionLength}
 use Rattle.columns.specs.Columns.{treeCorrection, senderTable}
 use Rattle.rules.specs.Orders.{withBatch}
-use Rattle.rules.proofs.Fits.{correct-fits}
+use Rattle.rules.proofs.Fits.{CorrectTells, correct-fits}
 use Rattle.session.proofs.sender_correct.Statement.{statement}
 use Rattle.session.proofs.sender_correct.Tie as tie
 
@@ -36,9 +36,7 @@ refused c = sym (c .before .is-done .ensures) ∙ c .if1 .left
 -- what an answer of done tells
 fits : (c : tie.Then1)
     → let a = c .before .before .before .before .before .before .before .args in
-    let k = a .r .width in
-    (widthAllowed k ≡ true) × (a .blocks ≤ 15) × (length (now (a .siblings)) ≡ siblingsLength) × (length (now (a .delta)) ≡ deltaLength)
-    × (length (now (a .correction)) ≡ correctionLength k (a .blocks)) × (length (now (a .table)) ≡ tableLength (a .blocks))
+    CorrectTells (a .r) (a .blocks) (length (now (a .siblings))) (length (now (a .delta))) (length (now (a .correction))) (length (now (a .table)))
 fits c =
     let a = c .before .before .before .before .before .before .before .args in
     correct-fits (a .r) (a .batch) (a .blocks) (length (now (a .siblings))) (length (now (a .delta))) (length (now (a .correction))) (length (now (a .table)))
@@ -53,27 +51,32 @@ trees-of-requires c κs = search needs
 cast-correct : tie.Need-cast-correct
 cast-correct c = search needs
 
+stream-of-requires : tie.Need-stream-of-requires
+stream-of-requires c κs = search needs
+
 correct-requires : tie.Need-correct-requires
 correct-requires c κs =
-    let t = c .before .before .before .before in
+    let t = c .before .before .before .before .before in
     let h = fits t in
     let a = t .before .before .before .before .before .before .before .args in
     let k = a .r .width in
     let len = columnLength (a .blocks) in
-    let long = c .before .before .before .column-length .ensures in
-    let count = c .before .before .trees-of .ensures in
-    let width = width-fits k (h .0) in (
+    let long = c .before .before .before .before .column-length .ensures in
+    let count = c .before .before .before .trees-of .ensures in
+    let width = width-fits k (h .width) in (
       (
-        subst (λ (n : ℕ). TreesFit n k) (sym count) (trees-fit k (h .0)),
-        omega (arith, h .3, ap (λ (n : ℕ). n * k) count, width .columns),
-        h .2 ∙ sym (width .single) ∙ ap (λ (n : ℕ). n * (32 * k)) (sym count),
-        h .4 ∙ ap₂ (λ (n l : ℕ). (n - 1) * l) (sym count) (sym long),
-        h .5
-            ∙ ap (λ (c : ℕ). c * len) (sym (width .columns))
-            ∙ mul-assoc (treesOf k) k len
-            ∙ ap₂ (λ (n l : ℕ). n * (k * l)) (sym count) (sym long),
+        subst (λ (n : ℕ). TreesFit n k) (sym count) (trees-fit k (h .width)),
+        omega (arith, h .delta-long, ap (λ (n : ℕ). n * k) count, width .columns),
+        h .siblings-long ∙ sym (width .single) ∙ ap (λ (n : ℕ). n * (32 * k)) (sym count),
+        record {
+          correction-long = h .correction-long ∙ ap₂ (λ (n l : ℕ). (n - 1) * l) (sym count) (sym long);
+          table-long = h .table-long
+              ∙ ap (λ (c : ℕ). c * len) (sym (width .columns))
+              ∙ mul-assoc (treesOf k) k len
+              ∙ ap₂ (λ (n l : ℕ). n * (k * l)) (sym count) (sym long);
+        },
       ),
-      (omega (arith, long), omega (arith, long, h .1), omega (arith, long)),
+      record { words = omega (arith, long); some = omega (arith, long); short = omega (arith, long, h .few) },
     )
 
 with-batch-requires : tie.Need-with-batch-requires
@@ -84,16 +87,21 @@ same-length c = search needs
 
 returns : tie.Need-returns
 returns c =
-    let m = c .before .before .before .before .before .before in
+    let drawn = c .before .before .before .before .before in
+    let m = drawn .before .before in
     let t = m .before .before in
     let a = t .before .before .before .before .before .before .before .args in
     let x = t .before .before .sender-correct in
-    let made : ℕ → ℕ → List ℕ = λ n len. senderTable n (a .r .width) (streamByte (a .batch)) len (now (a .siblings)) (now (a .delta)) (treeCorrection len (now (a .correction))) in
+    let made : (ℕ → Range → ℕ) → ℕ → ℕ → Range =
+    λ f n len. senderTable n (a .r .width) f len (now (a .siblings)) (now (a .delta)) (treeCorrection len (now (a .correction))) in
+    let stream = streamByte (a .batch) in
     record {
       answered = x .ensures;
       recorded = c .with-batch .ensures ∙ sym (new-when (x .result) (withBatch (a .r) (a .batch) (a .blocks)) (a .r) (done t));
-      filled = c .before .before .before .correct .ensures ∙ ap₂ made (m .trees-of .ensures) (m .before .column-length .ensures)
-          ∙ sym (new-when (x .result) (made (treesOf (a .r .width)) (columnLength (a .blocks))) (now (a .table)) (done t));
+      filled = c .before .before .before .correct .ensures
+          ∙ ap (λ (f : ℕ → Range → ℕ). made f (m .trees-of .result) (m .before .column-length .result)) (drawn .stream-of .ensures)
+          ∙ ap₂ (made stream) (m .trees-of .ensures) (m .before .column-length .ensures)
+          ∙ sym (new-when (x .result) (made stream (treesOf (a .r .width)) (columnLength (a .blocks))) (now (a .table)) (done t));
     }
 
 returns-2 : tie.Need-returns-2
@@ -117,6 +125,7 @@ sender-correct-spec =
     column-length-requires
     trees-of-requires
     cast-correct
+    stream-of-requires
     correct-requires
     with-batch-requires
     same-length

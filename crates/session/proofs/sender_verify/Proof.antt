@@ -15,7 +15,7 @@ use Rattle.sizes.specs.Sizes.{columns, columnLength, deltaLength, tableLength, 
 use Rattle.consistency.specs.Message.{accepts}
 use Rattle.pads.specs.Pads.{senderPads}
 use Rattle.rules.specs.Orders.{withoutBatch, closed, beforeCheck}
-use Rattle.rules.proofs.Fits.{verify-fits}
+use Rattle.rules.proofs.Fits.{VerifyTells, verify-fits}
 use Rattle.session.proofs.sender_verify.Statement.{statement}
 use Rattle.session.proofs.sender_verify.Tie as tie
 
@@ -43,9 +43,7 @@ holds c = all-hold (asked (c .before .before .before .before .before .before .be
 
 fits : (c : tie.Then1)
     → let a = c .before .before .before .before .before .before .before .args in
-    let blocks = a .r .blocks in
-    (blocks ≤ 15) × (length (now (a .table)) ≡ tableLength blocks) × (length (now (a .delta)) ≡ deltaLength)
-    × (length (now (a .message)) ≡ checkMessageLength) × (length (now (a .pads)) ≡ senderPadsLength blocks)
+    VerifyTells (a .r) (length (now (a .table))) (length (now (a .delta))) (length (now (a .message))) (length (now (a .pads)))
 fits c =
     let a = c .before .before .before .before .before .before .before .args in
     verify-fits (a .r) (length (now (a .table))) (length (now (a .delta))) (length (now (a .message))) (length (now (a .pads))) (holds c)
@@ -56,7 +54,7 @@ column-length-requires c κs = search needs
 accepts-requires : tie.Need-accepts-requires
 accepts-requires c κs =
     let h = fits (c .before) in
-    (refl, omega arith, h .1 ∙ ap (λ (n : ℕ). columns * n) (sym (c .column-length .ensures)), omega (arith, h .2), h .3)
+    (refl, omega arith, h .table-long ∙ ap (λ (n : ℕ). columns * n) (sym (c .column-length .ensures)), omega (arith, h .delta-long), h .message-long)
 
 cast-sender-pads : tie.Need-cast-sender-pads
 cast-sender-pads c = search needs
@@ -67,7 +65,7 @@ cast-sender-pads-2 c = search needs
 sender-pads-requires : tie.Need-sender-pads-requires
 sender-pads-requires c κs =
     let h = fits (c .before .before .before .before .before .before) in
-    (h .0, h .1, h .2, h .4)
+    (h .few, h .table-long, h .delta-long, h .pads-long)
 
 without-batch-requires : tie.Need-without-batch-requires
 without-batch-requires c κs = search needs

@@ -5,10 +5,10 @@ use Prim.Native.Nat.{ℕ, _<_}
 use native.Mathlib.Omega.{arith}
 use lib.ListN.{length}
 use borrow.Author.Needs.{needs}
-use Rattle.chacha20.specs.Lanes.{blocksOf}
-use Rattle.chacha20.specs.Nonce.{nonceOf}
+use Rattle.chacha20.specs.FourStates.{blocksOf}
+use Rattle.tree.specs.Nonce.{nonceOf}
 use Rattle.tree.specs.Streams.{wordOf}
-use Rattle.tree.proofs.Lanes.{child-in}
+use Rattle.tree.proofs.WalkWords.{child-in}
 use Rattle.tree.proofs.Telescope.{leaf-columns, column-fits, walked}
 use borrow.Fn.Kinds.{In}
 use borrow.Fn.PlainCycle.{Measures, is, falls, and}
@@ -16,7 +16,7 @@ use Rattle.tree.proofs.walk.Reads as walk
 use Rattle.tree.proofs.walk.Kinds as walk-kinds
 use Rattle.tree.proofs.+walk.Lts-walk as walk-lts
 use Rattle.chacha20.proofs.four.block.Reads as block-reads
-use Rattle.chacha20.proofs.nonce.Reads as nonce-reads
+use Rattle.tree.proofs.nonce.Reads as nonce-reads
 use Rattle.tree.proofs.add_column.Reads as add-column-reads
 use Rattle.tree.proofs.add_stream.Reads as add-stream-reads
 use Rattle.tree.proofs.nodes_at.Reads as nodes-at-reads
@@ -58,14 +58,14 @@ walk-nonce-requires t c κs = search needs
 walk-block-requires : (t : ℕ) → walk-lts.Need-block-requires (claims t) (walk-at t) walk.Post
 walk-block-requires t c κs = search needs
 
+walk-sub-walk : (t : ℕ) → walk-lts.Need-sub-walk (claims t) (walk-at t) walk.Post
+walk-sub-walk t c = search needs
+
 walk-slice-aggregate-nodes-at : (t : ℕ) → walk-lts.Need-slice-aggregate-nodes-at (claims t) (walk-at t) walk.Post
 walk-slice-aggregate-nodes-at t c = search needs
 
 walk-nodes-at-requires : (t : ℕ) → walk-lts.Need-nodes-at-requires (claims t) (walk-at t) walk.Post
 walk-nodes-at-requires t c κs = search needs
-
-walk-sub-walk : (t : ℕ) → walk-lts.Need-sub-walk (claims t) (walk-at t) walk.Post
-walk-sub-walk t c = search needs
 
 walk-walk-requires : (t : ℕ) → walk-lts.Need-walk-requires (claims t) (walk-at t) walk.Post
 walk-walk-requires t c κs =
@@ -86,14 +86,14 @@ walk-add-column-requires t c κs =
     let kept = left .walk .kept .1 .1 .1 in
     column-fits ne (s .pre .1 .0) (kept .0) (kept .1 .0)
 
+walk-sub-walk-2 : (t : ℕ) → walk-lts.Need-sub-walk-2 (claims t) (walk-at t) walk.Post
+walk-sub-walk-2 t c = search needs
+
 walk-slice-aggregate-nodes-at-2 : (t : ℕ) → walk-lts.Need-slice-aggregate-nodes-at-2 (claims t) (walk-at t) walk.Post
 walk-slice-aggregate-nodes-at-2 t c = search needs
 
 walk-nodes-at-requires-2 : (t : ℕ) → walk-lts.Need-nodes-at-requires-2 (claims t) (walk-at t) walk.Post
 walk-nodes-at-requires-2 t c κs = search needs
-
-walk-sub-walk-2 : (t : ℕ) → walk-lts.Need-sub-walk-2 (claims t) (walk-at t) walk.Post
-walk-sub-walk-2 t c = search needs
 
 walk-walk-requires-2 : (t : ℕ) → walk-lts.Need-walk-requires-2 (claims t) (walk-at t) walk.Post
 walk-walk-requires-2 t c κs =
@@ -162,15 +162,15 @@ pub +walk-spec : {M : Type 1} → statement M
     (walk-add-stream-requires t)
     (walk-nonce-requires t)
     (walk-block-requires t)
+    (walk-sub-walk t)
     (walk-slice-aggregate-nodes-at t)
     (walk-nodes-at-requires t)
-    (walk-sub-walk t)
     (walk-walk-requires t)
     (walk-sub-add-column t)
     (walk-add-column-requires t)
+    (walk-sub-walk-2 t)
     (walk-slice-aggregate-nodes-at-2 t)
     (walk-nodes-at-requires-2 t)
-    (walk-sub-walk-2 t)
     (walk-walk-requires-2 t)
     (walk-sub-add-column-2 t)
     (walk-add-column-requires-2 t)

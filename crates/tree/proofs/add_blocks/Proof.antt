@@ -7,17 +7,17 @@ use lib.ListN.{length, getD}
 use borrow.Author.Needs.{needs}
 use Rattle.words.proofs.Progress.{Added, updated-none, added-all}
 use Rattle.words.proofs.Parts.{added-part, part-added}
-use Rattle.tree.specs.Lanes.{uWord}
+use Rattle.tree.specs.WalkWords.{uWord}
 use Rattle.tree.specs.Streams.{blockWord}
 use Rattle.tree.proofs.Telescope.{stream-word}
 use Rattle.tree.proofs.add_blocks.Statement.{statement}
 use Rattle.tree.proofs.add_blocks.Tie as tie
 
 abbrev Inv-loop : tie.InvT-loop
-Inv-loop keys nonce u₀ counter₀ at₀ u counter at = (at ≤ length u₀) × (at ≡ 64 * counter) × Added u₀ u (uWord (blockWord nonce) 0 keys) at
+Inv-loop nonce keys u₀ counter₀ at₀ u counter at = (at ≤ length u₀) × (at ≡ 64 * counter) × Added u₀ u (uWord (blockWord nonce) 0 keys) at
 
 abbrev μ-loop : tie.MeasureT-loop
-μ-loop keys nonce u₀ counter₀ at₀ u counter at = length u₀ - at
+μ-loop nonce keys u₀ counter₀ at₀ u counter at = length u₀ - at
 
 loop-holds : tie.Need-loop-holds Inv-loop μ-loop
 loop-holds c = (omega arith, omega arith, updated-none _ _)

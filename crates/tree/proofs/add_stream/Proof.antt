@@ -2,10 +2,9 @@
 use mathlib.Core.Path.{ap, _∙_}
 use mathlib.Core.List.{List}
 use Prim.Native.Nat.{ℕ}
-use native.Mathlib.Omega.{arith}
 use borrow.Author.Needs.{needs}
 use Rattle.words.specs.Xor.{xorEach}
-use Rattle.tree.specs.Lanes.{uWord}
+use Rattle.tree.specs.WalkWords.{uWord}
 use Rattle.tree.specs.Streams.{blockWord}
 use Rattle.tree.proofs.add_stream.Statement.{statement}
 use Rattle.tree.proofs.add_stream.Tie as tie

@@ -1,5 +1,5 @@
 -- `vectors::line` is safe: the line stands within its bytes. Assumes nothing.
-use Rattle.foldtext.proofs.Laws.{holds-within, holds-counted}
+use Rattle.foldtext.proofs.LineLaws.{holds-within, holds-counted}
 use borrow.Author.Needs.{needs}
 use Rattle.vectors.proofs.line.Statement.{statement}
 use Rattle.vectors.proofs.line.Tie as tie

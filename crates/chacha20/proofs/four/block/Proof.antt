@@ -1,8 +1,8 @@
-use Rattle.chacha20.proofs.Laws.{addWords-length, lane-add}
+use Rattle.chacha20.proofs.BlockLaws.{addWords-length, lane-add}
 use Rattle.chacha20.specs.ChaCha.{doubleRounds, addWords, blockWords}
 use Rattle.words.specs.Lanes.{lane}
 use Rattle.words.proofs.Lanes.{laned-is}
-use Rattle.chacha20.specs.Lanes.{blocksOf}
+use Rattle.chacha20.specs.FourStates.{blocksOf}
 use lib.ListN.{length}
 use mathlib.Core.Path.{_≡_, sym, ap, ap₂, _∙_}
 use borrow.Author.Needs.{needs}

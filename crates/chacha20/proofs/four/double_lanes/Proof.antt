@@ -4,7 +4,7 @@ use native.Mathlib.Omega.{arith}
 use Rattle.words.specs.Lanes.{lane}
 use Rattle.words.proofs.Lanes.{Filled, filled-none, filled-more, filled-all}
 use Rattle.chacha20.specs.ChaCha.{doubleRound}
-use Rattle.chacha20.specs.Lanes.{listed}
+use Rattle.chacha20.specs.FourStates.{listed}
 use borrow.Author.Needs.{needs}
 use Rattle.chacha20.proofs.four.double_lanes.Statement.{statement}
 use Rattle.chacha20.proofs.four.double_lanes.Tie as tie

@@ -1,4 +1,4 @@
-use Rattle.chacha20.proofs.Laws.{key-word}
+use Rattle.chacha20.proofs.BlockLaws.{key-word}
 use borrow.Author.Needs.{needs}
 use Rattle.chacha20.proofs.four.key_word.Statement.{statement}
 use Rattle.chacha20.proofs.four.key_word.Tie as tie

@@ -1,5 +1,5 @@
 use borrow.Author.Needs.{needs}
-use Rattle.chacha20.specs.Lanes.{EachLane}
+use Rattle.chacha20.specs.FourStates.{EachLane}
 use Rattle.chacha20.specs.ChaCha.{doubleRound, doubleRounds}
 use Rattle.words.specs.Lanes.{lane}
 use native.Mathlib.Omega.{arith}

@@ -1,5 +1,5 @@
 use borrow.Author.Needs.{needs}
-use Rattle.chacha20.specs.Lanes.{listed, keyIn}
+use Rattle.chacha20.specs.FourStates.{listed, keyIn}
 use Rattle.chacha20.specs.ChaCha.{startOf}
 use Rattle.words.proofs.Lanes.{Filled, filled-none, filled-more, filled-all}
 use native.Mathlib.Omega.{arith}

@@ -1,4 +1,4 @@
-use Rattle.chacha20.proofs.Laws.{doubleRounds-length}
+use Rattle.chacha20.proofs.BlockLaws.{doubleRounds-length}
 use Rattle.chacha20.specs.ChaCha.{startOf, doubleRounds, addWords, blockWords, blockOf}
 use Rattle.words.specs.Bytes.{bytesOfWords}
 use lib.ListN.{length}

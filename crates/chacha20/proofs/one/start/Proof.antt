@@ -1,4 +1,4 @@
-use Rattle.chacha20.proofs.Laws.{started}
+use Rattle.chacha20.proofs.BlockLaws.{started}
 use borrow.Author.Needs.{needs}
 use Rattle.chacha20.proofs.one.start.Statement.{statement}
 use Rattle.chacha20.proofs.one.start.Tie as tie

@@ -10,7 +10,7 @@ use Rattle.tree.specs.Layout.{rootOf, treePart}
 use Rattle.setup.specs.Setup.{treeMessage, messageOf}
 use Rattle.setup.proofs.Honest.{message-length}
 use Rattle.tree.proofs.TreesFit.{few-trees, four-fit}
-use Rattle.setup.proofs.Message.{four-from}
+use Rattle.setup.proofs.Message.{four-messages-from}
 use Rattle.setup.proofs.receiver.write_message.Statement.{statement}
 use Rattle.setup.proofs.receiver.write_message.Tie as tie
 
@@ -44,8 +44,8 @@ room c =
     let n = s .args .n in
     let k = s .args .k in
     let trees = s .pre .0 in
-    let four = four-fit n (c .before .loop .i) (trees .1) (c .before .loop .inv .0) (c .loop-test .taken) (64 * k) in
-    (four .0, few-trees n k trees, four .1, four .2, omega (arith, mul-left-comm n 64 k, trees .4))
+    let four = four-fit n (c .before .loop .i) (trees .fours) (c .before .loop .inv .0) (c .loop-test .taken) (64 * k) in
+    (four .0, few-trees n k trees, four .1, four .2, omega (arith, mul-left-comm n 64 k, trees .few))
 
 add-next : tie.Need-add-next Inv-loop μ-loop
 add-next c = omega (arith, room c)
@@ -97,7 +97,7 @@ four-messages-requires c κs =
     let a : ℕ = w .i * (64 * s .args .k) in
     let e : ℕ = (w .i + 4) * (64 * s .args .k) in
     let size : e - a ≡ 4 * (64 * s .args .k) = omega (arith, here) in (
-      s .pre .0 .3,
+      s .pre .0 .shallow,
       mid-len (w .i * 32) ((w .i + 4) * 32) (s .args .roots .now) (omega (arith, here, s .pre)) ∙ omega arith,
       mid-len a e (s .args .pads .now) (omega (arith, here, s .pre)) ∙ size,
       mid-len a e (w .message) (omega (arith, here, w .inv .1 .len)) ∙ size,
@@ -113,7 +113,7 @@ loop-again c =
     let here = room (c .before .before .before .before .before .before) in
     let k = s .args .k in
     let f : ℕ → List ℕ = λ j. treeMessage k (rootOf (s .args .roots .now) j) (treePart k 64 j (s .args .pads .now)) in
-    let made = c .before .before .four-messages .ensures ∙ four-from k (w .i) (s .args .roots .now) (s .args .pads .now) in
+    let made = c .before .before .four-messages .ensures ∙ four-messages-from k (w .i) (s .args .roots .now) (s .args .pads .now) in
     (omega (arith, w .inv .0), laid-more (s .args .n) (64 * k) f (w .i) 4 (w .message) _ made (λ j h. message-length k _ _) (here .0) (w .inv .1))
 
 same-length : tie.Need-same-length Inv-loop μ-loop

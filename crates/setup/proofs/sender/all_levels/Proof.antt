@@ -4,7 +4,7 @@ use Prim.Native.Nat.{ℕ, _+_, _-_, _*_, _<_}
 use native.Mathlib.Omega.{arith}
 use lib.ListN.{length, getD}
 use Rattle.words.specs.Lanes.{laneBytes}
-use Rattle.setup.proofs.Levels.{Reached, reached-none, reached-next, reached-all}
+use Rattle.setup.proofs.Levels.{LevelsFound, found-none, found-more, found-all}
 use Rattle.setup.proofs.sender.all_levels.Statement.{statement}
 use Rattle.setup.proofs.sender.all_levels.Tie as tie
 
@@ -13,7 +13,7 @@ Inv-loop k sides t₀ s₀ level₀ t s level =
     (level < k)
     × (length t ≡ 64 * k)
     × (length s ≡ 32 * k)
-    × ((i : ℕ) → i < 4 → Reached k (λ l. getD sides (i * k + l) 0) (laneBytes i (8 * k) s₀) i level s t)
+    × ((i : ℕ) → i < 4 → LevelsFound k (λ l. getD sides (i * k + l) 0) (laneBytes i (8 * k) s₀) i level s t)
 
 abbrev μ-loop : tie.MeasureT-loop
 μ-loop k sides t₀ s₀ level₀ t s level = k - level
@@ -22,7 +22,7 @@ loop-holds : tie.Need-loop-holds Inv-loop μ-loop
 loop-holds c =
     let s = c .before .before .before in
     let k = s .args .k in
-    (s .pre .0 .0, s .pre .1 .0, s .pre .1 .1, λ i h. reached-none k _ (λ l. s .pre .0 .3 (i * k + l)) _ i h _ _ refl (s .pre .1 .2))
+    (s .pre .0 .0, s .pre .1 .0, s .pre .1 .1, λ i h. found-none k _ (λ l. s .pre .0 .3 (i * k + l)) _ i h _ _ refl (s .pre .1 .2))
 
 add-loop : tie.Need-add-loop Inv-loop μ-loop
 add-loop c = omega (arith, c .before .before .before .before .pre .0 .1)
@@ -50,7 +50,7 @@ loop-again c =
       did .kept .1 .1 .1 .0 ∙ w .inv .1,
       did .kept .1 .1 .1 .1 .0 ∙ w .inv .2,
       λ i h.
-          reached-next k _ (λ l. s .pre .0 .3 (i * k + l)) _ i h (w .level) (w .s) (w .t) _ _ (s .args .sides .now) more (w .inv .2) (w .inv .1)
+          found-more k _ (λ l. s .pre .0 .3 (i * k + l)) _ i h (w .level) (w .s) (w .t) _ _ (s .args .sides .now) more (w .inv .2) (w .inv .1)
           (λ j. refl) (w .inv .3 i h) (did .ensures .0) (did .ensures .1),
     )
 
@@ -65,7 +65,7 @@ returns c =
     let s = c .before .before .before .before .before in
     let w = c .before .loop in
     let k = s .args .k in
-    λ i h. reached-all k _ (λ l. s .pre .0 .3 (i * k + l)) _ i h (w .level) (w .s) (w .t) (omega (arith, w .inv .0)) (w .inv .3 i h)
+    λ i h. found-all k _ (λ l. s .pre .0 .3 (i * k + l)) _ i h (w .level) (w .s) (w .t) (omega (arith, w .inv .0)) (w .inv .3 i h)
 
 pub all-levels-spec : {M : Type 1} → statement M
 all-levels-spec =

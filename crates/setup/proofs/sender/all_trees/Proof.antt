@@ -50,9 +50,9 @@ room c =
     let n = s .args .n in
     let k = s .args .k in
     let trees = s .pre .0 in
-    let sides = four-fit n (c .before .loop .i) (trees .1) (c .before .loop .inv .0) (c .loop-test .taken) k in
-    let nodes = four-fit n (c .before .loop .i) (trees .1) (c .before .loop .inv .0) (c .loop-test .taken) (32 * k) in
-    (sides .0, few-trees n k trees, nodes .1, nodes .2, omega (arith, mul-left-comm n 32 k, trees .4), sides .1, sides .2, trees .4)
+    let sides = four-fit n (c .before .loop .i) (trees .fours) (c .before .loop .inv .0) (c .loop-test .taken) k in
+    let nodes = four-fit n (c .before .loop .i) (trees .fours) (c .before .loop .inv .0) (c .loop-test .taken) (32 * k) in
+    (sides .0, few-trees n k trees, nodes .1, nodes .2, omega (arith, mul-left-comm n 32 k, trees .few), sides .1, sides .2, trees .few)
 
 add-next : tie.Need-add-next Inv-loop μ-loop
 add-next c = omega (arith, room c)
@@ -94,8 +94,8 @@ four-trees-requires c κs = let s = c .before .before .before .before .before .b
     let k = s .args .k in
     let size : (w .i + 4) * (32 * k) - w .i * (32 * k) ≡ 4 * (32 * k) = omega (arith, here) in
     let size₂ : (w .i + 4) * k - w .i * k ≡ 4 * k = omega (arith, here) in (
-      s .pre .0 .2,
-      s .pre .0 .3,
+      s .pre .0 .deep,
+      s .pre .0 .shallow,
       mid-len (w .i * k) ((w .i + 4) * k) (s .args .sides .now) (omega (arith, here, s .pre .1)) ∙ size₂,
       part-lt (w .i * k) ((w .i + 4) * k - w .i * k) (s .args .sides .now) 2 (omega arith) (s .pre .2),
       mid-len (w .i * (32 * k)) ((w .i + 4) * (32 * k)) (w .siblings) (omega (arith, here, w .inv .1 .len)) ∙ size,

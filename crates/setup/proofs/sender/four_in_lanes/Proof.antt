@@ -1,7 +1,6 @@
 -- `setup::sender::four_in_lanes` meets its contract: each lane has a tree's unmasked totals, and then its nodes. Assumes nothing.
 use Rattle.setup.proofs.Levels.{through-lanes}
 use mathlib.Core.Path.{_∙_}
-use Prim.Native.Nat.{_-_}
 use native.Mathlib.Omega.{arith}
 use borrow.Author.Needs.{needs}
 use Rattle.setup.proofs.sender.four_in_lanes.Statement.{statement}

@@ -7,7 +7,7 @@ use native.Mathlib.Omega.{arith}
 use lib.ListN.{length, getD}
 use borrow.Rule.Slice.PartMut.{putMid, mid-len}
 use Rattle.words.specs.Bytes.{part}
-use Rattle.setup.proofs.Levels.{Added, totals-back}
+use Rattle.setup.proofs.Levels.{TotalsAdded, totals-back}
 use Rattle.words.proofs.Lists.{tabulate-at, tabulate-lt, xorEach-cong}
 use Rattle.words.proofs.Parts.{part-added}
 use Rattle.words.proofs.Concat.{part-at, part-length}
@@ -61,7 +61,7 @@ totals-requires c κs =
 -- t, back from the walk
 added : (c : tie.After-totals)
     → let s = c .before .before .before .before .before .before .before .before in
-    Added (s .args .k) (s .args .level) (s .args .t .now) (s .args .s .now) (c .totals .last .1 .1 .0)
+    TotalsAdded (s .args .k) (s .args .level) (s .args .t .now) (s .args .s .now) (c .totals .last .1 .1 .0)
 added c =
     let s = c .before .before .before .before .before .before .before .before in
     totals-back (s .args .k) (s .args .level) (s .args .t .now) (s .args .s .now) _ _ (s .pre .0 .0) (s .pre .1 .0) (c .totals .ensures)

@@ -7,14 +7,14 @@ use lib.ListN.{getD}
 use borrow.Author.Needs.{needs}
 use Rattle.words.proofs.Lists.{xorEach-length, xorEach-at}
 use Rattle.words.proofs.Progress.{Updated, updated-none, updated-one, updated-all}
-use Rattle.words.specs.Xor.{xorEach}
+use Rattle.words.specs.Xor.{_⊕_, xorEach}
 use Rattle.setup.proofs.Chosen.{chosen}
 use Rattle.setup.proofs.sender.take_off.Statement.{statement}
 use Rattle.setup.proofs.sender.take_off.Tie as tie
 
 abbrev Inv-loop : tie.InvT-loop
 Inv-loop nodes₀ totals sides i₀ nodes i =
-    (i ≤ 32) × Updated nodes₀ nodes (λ j. bitXor (getD nodes₀ j 0) (getD totals (32 * getD sides (j % 4) 0 + j) 0)) i
+    (i ≤ 32) × Updated nodes₀ nodes (λ j. getD nodes₀ j 0 ⊕ getD totals (32 * getD sides (j % 4) 0 + j) 0) i
 
 abbrev μ-loop : tie.MeasureT-loop
 μ-loop nodes₀ totals sides i₀ nodes i = 32 - i
@@ -79,7 +79,7 @@ returns c =
     let w = c .before .loop in
     let nodes = s .args .nodes .now in
     let f : ℕ → ℕ = λ j. getD (s .args .totals .now) (32 * getD (s .args .t3) (j % 4) 0 + j) 0 in
-    updated-all nodes (w .nodes) (xorEach nodes f) (λ j. bitXor (getD nodes j 0) (f j)) (w .i) (omega (arith, s .pre .0))
+    updated-all nodes (w .nodes) (xorEach nodes f) (λ j. getD nodes j 0 ⊕ f j) (w .i) (omega (arith, s .pre .0))
     (xorEach-length nodes f) (λ i h. xorEach-at nodes f i h) (w .inv .1)
 
 pub take-off-spec : {M : Type 1} → statement M

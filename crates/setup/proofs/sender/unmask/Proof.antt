@@ -2,7 +2,6 @@
 use mathlib.Core.Path.{_≡_, sym, ap, _∙_}
 use Prim.Native.Nat.{ℕ, _+_, _-_, _*_, _%_, _^_, _≤_}
 use native.Mathlib.Omega.{arith}
-use lib.Bits.{bitXor}
 use lib.ListN.{getD}
 use borrow.Author.Needs.{needs}
 use Rattle.words.specs.Bytes.{tabulate}
@@ -11,9 +10,10 @@ use Rattle.words.proofs.Progress.{Updated, updated-none, updated-one, updated-a
 use Rattle.setup.proofs.Chosen.{chosen}
 use Rattle.setup.proofs.sender.unmask.Statement.{statement}
 use Rattle.setup.proofs.sender.unmask.Tie as tie
+use Rattle.words.specs.Xor.{_⊕_}
 
 abbrev Inv-loop : tie.InvT-loop
-Inv-loop out₀ totals pad side ones j₀ out j = (j ≤ 32) × Updated out₀ out (λ i. bitXor (getD totals (32 * side + i) 0) (getD pad i 0)) j
+Inv-loop out₀ totals pad side ones j₀ out j = (j ≤ 32) × Updated out₀ out (λ i. getD totals (32 * side + i) 0 ⊕ getD pad i 0) j
 
 abbrev μ-loop : tie.MeasureT-loop
 μ-loop out₀ totals pad side ones j₀ out j = 32 - j
@@ -57,7 +57,7 @@ loop-again c =
     let known = c .before .before .before .before .before .before .before .shared-slice-known .given in
     let taken = chosen 8 (s .args .totals .now) (w .j) (s .args .side) _ (known (w .j) .fits) (known (32 + w .j) .fits) (s .pre .3) ones in (
       omega arith,
-      updated-one _ _ _ _ _ (omega (arith, s .pre)) (ap (λ (x : ℕ). bitXor x (getD (s .args .pad .now) (w .j) 0)) taken) (w .inv .1),
+      updated-one _ _ _ _ _ (omega (arith, s .pre)) (ap (λ (x : ℕ). x ⊕ getD (s .args .pad .now) (w .j) 0) taken) (w .inv .1),
     )
 
 same-length : tie.Need-same-length Inv-loop μ-loop
@@ -67,7 +67,7 @@ returns : tie.Need-returns Inv-loop μ-loop
 returns c =
     let s = c .before .before .before .before .before .before in
     let w = c .before .loop in
-    let f : ℕ → ℕ = λ i. bitXor (getD (s .args .totals .now) (32 * s .args .side + i) 0) (getD (s .args .pad .now) i 0) in
+    let f : ℕ → ℕ = λ i. getD (s .args .totals .now) (32 * s .args .side + i) 0 ⊕ getD (s .args .pad .now) i 0 in
     updated-all (s .args .out .now) (w .out) (tabulate 32 f) f (w .j) (omega (arith, s .pre)) (tabulate-length 32 f ∙ sym (s .pre .0))
     (λ i h. tabulate-at 32 f i (omega (arith, s .pre))) (w .inv .1)
 

@@ -5,7 +5,7 @@ use lib.ListN.{length}
 use Rattle.words.specs.Bytes.{concat}
 use Rattle.sha256.specs.Sha.{constants}
 use Rattle.sha256.specs.Four.{digestIn, roundsInLanes}
-use Rattle.sha256.proofs.Lanes.{lane-digests}
+use Rattle.sha256.proofs.InLanes.{lane-digests}
 use borrow.Author.Needs.{needs}
 use Rattle.sha256.proofs.four.digest.Statement.{statement}
 use Rattle.sha256.proofs.four.digest.Tie as tie

@@ -2,7 +2,7 @@ use mathlib.Core.Path.{sym, ap, _∙_}
 use mathlib.Core.List.{List}
 use Prim.Native.Nat.{ℕ, _-_, _/_}
 use lib.ListN.{getD}
-use Rattle.sha256.proofs.Lanes.{message-at, pad-at}
+use Rattle.sha256.proofs.InLanes.{message-at, pad-at}
 use borrow.Author.Needs.{needs}
 use Rattle.sha256.proofs.four.first_word.Statement.{statement}
 use Rattle.sha256.proofs.four.first_word.Tie as tie

@@ -5,7 +5,7 @@ use native.Mathlib.Omega.{arith}
 use lib.ListN.{length}
 use Rattle.sha256.specs.Four.{padWords, schedules}
 use Rattle.words.proofs.Progress.{Begun, take-begun, begun-set, begun-all}
-use Rattle.sha256.proofs.Lanes.{schedules-length, next-at}
+use Rattle.sha256.proofs.InLanes.{schedules-length, next-at}
 use Rattle.sha256.proofs.four.schedule.Statement.{statement}
 use Rattle.sha256.proofs.four.schedule.Tie as tie
 

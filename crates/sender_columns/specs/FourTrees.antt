@@ -1,16 +1,34 @@
--- What the code keeps of four trees. Assumes nothing.
+-- What the code asks of the ranges that it is lent, and what it keeps of four trees. Assumes nothing.
 use mathlib.Core.Path.{_≡_}
-use mathlib.Core.List.{List, []}
+use mathlib.Core.List.{List}
 use Prim.Native.Nat.{ℕ, _+_, _-_, _*_, _/_, _%_, _^_, _≤_, _<_}
 use lib.ListN.{length, getD}
 use Rattle.words.specs.Bytes.{part, tabulate}
 use Rattle.words.specs.Xor.{xorEach, xorPart}
 use Rattle.words.specs.Lanes.{laneBytes}
 use Rattle.tree.specs.Path.{sideOf}
+use Rattle.tree.specs.Sides.{Sides}
 use Rattle.tree.specs.declared.Stream.{Stream}
-use Rattle.tree.specs.Lanes.{columnWord}
+use Rattle.tree.specs.WalkWords.{columnWord}
 use Rattle.tree.specs.Streams.{byteOf, wordOf}
 use Rattle.columns.specs.Columns.{senderColumn}
+
+-- n trees of k levels have a side and a sibling for each base transfer
+pub record PathsFit (n k : ℕ) (sides siblings : List ℕ) : Type 0 where
+  pub sides-long : length sides ≡ n * k
+  pub sides-low : Sides sides
+  pub siblings-long : length siblings ≡ n * (32 * k)
+
+-- where a column has len bytes: a correction for each of n trees but the first, and their columns
+pub record TableFits (n k len : ℕ) (correction table : List ℕ) : Type 0 where
+  pub correction-long : length correction ≡ (n - 1) * len
+  pub table-long : length table ≡ n * (k * len)
+
+-- of four trees from tree i on, the table is theirs alone
+pub record FourFit (i k len : ℕ) (correction table : List ℕ) : Type 0 where
+  pub early : i ≤ 128
+  pub correction-long : (i + 3) * len ≤ length correction
+  pub table-long : length table ≡ 4 * (k * len)
 
 -- sides has, for four trees of k levels, the sides of the numbers d
 abbrev pub SidesAre : ℕ → List ℕ → (ℕ → ℕ) → Type 0
@@ -26,11 +44,6 @@ SenderLanes k stream n d s u v =
 -- lane l of u, n bytes of it, has the bytes of s, and 0 where s has ended
 abbrev pub LaneHas : ℕ → ℕ → List ℕ → List ℕ → Type 0
 LaneHas n l s u = (x : ℕ) → x < n → getD (laneBytes l (n / 4) u) x 0 ≡ getD s x 0
-
--- the room that four trees of k levels are worked out in, for columns of len bytes: s for the siblings, u for the corrections, v for the columns
-abbrev pub WorkFits : ℕ → ℕ → List ℕ → List ℕ → List ℕ → Type 0
-WorkFits k len s u v =
-    (length s ≡ 32 * k) × (length u % 64 ≡ 0) × (length u ≤ 128) × (0 < length u) × (length v ≡ k * length u) × (len ≤ length u) × (len % 4 ≡ 0)
 
 -- the columns v, n words each, after one more level, where u was before it and u′ is after it: u is added to the level's column where delta has
 -- its bit 0, the columns below the siblings are added to all, and u′ to the level's column

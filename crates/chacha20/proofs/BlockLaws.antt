@@ -10,7 +10,7 @@ use Rattle.words.specs.Word32.{add32}
 use Rattle.words.proofs.Lanes.{lane-at, lane-laned}
 use Rattle.words.proofs.Numbers.{word-back, bytesOfWords-length, bytesOfWords-at}
 use Rattle.chacha20.specs.ChaCha.{putQuad, quarterAt, columnRound, diagonalRound, doubleRound, doubleRounds, addWords, startOf, blockWords, blockOf}
-use Rattle.chacha20.specs.Lanes.{keyIn, blocksOf}
+use Rattle.chacha20.specs.FourStates.{keyIn, blocksOf}
 
 -- two lists are equal, head by head
 pub cons : {x y : ℕ} {s t : List ℕ} → x ≡ y → s ≡ t → _≡_ {A = List ℕ} (x ∷ s) (y ∷ t)

@@ -1,10 +1,11 @@
+-- `tree::nonce` meets its contract. Assumes nothing.
 use lib.ListN.{getD}
 use Prim.Native.Nat.{ℕ}
 use mathlib.Core.List.{List, [], _∷_}
 use mathlib.Core.Path.{ap₂}
 use borrow.Author.Needs.{needs}
-use Rattle.chacha20.proofs.nonce.Statement.{statement}
-use Rattle.chacha20.proofs.nonce.Tie as tie
+use Rattle.tree.proofs.nonce.Statement.{statement}
+use Rattle.tree.proofs.nonce.Tie as tie
 
 bytes32-requires : tie.Need-bytes32-requires
 bytes32-requires c κs = search needs

@@ -10,7 +10,7 @@ use lib.ListN.{length, getD}
 use lib.Seq.{ext-getD}
 use Rattle.words.specs.Bytes.{bytes, part}
 use Rattle.words.specs.Lanes.{laneBytes}
-use Rattle.words.specs.Xor.{xorEach, xorPart}
+use Rattle.words.specs.Xor.{_⊕_, xorEach, xorPart}
 use Rattle.words.proofs.Xor.{xor-assoc}
 use Rattle.words.proofs.Lists.{xorEach-is}
 use Rattle.words.proofs.Parts.{xorPart-length, xorPart-before, xorPart-in, xorPart-after}
@@ -18,11 +18,11 @@ use Rattle.words.proofs.Concat.{part-at, part-length}
 use Rattle.words.proofs.Lanes.{laned-at}
 use Rattle.words.proofs.LaneBytes.{laneBytes-length, laneBytes-at, lane-is}
 use Rattle.chacha20.specs.ChaCha.{blockWords}
-use Rattle.chacha20.specs.Nonce.{nonceOf}
-use Rattle.chacha20.specs.Lanes.{keyIn, blocksOf}
-use Rattle.chacha20.proofs.Laws.{block-byte}
+use Rattle.tree.specs.Nonce.{nonceOf}
+use Rattle.chacha20.specs.FourStates.{keyIn, blocksOf}
+use Rattle.chacha20.proofs.BlockLaws.{block-byte}
 use Rattle.tree.specs.Tree.{childrenOf, childOf, sumBelow}
-use Rattle.tree.specs.Lanes.{childWord, totalWord, totalByte}
+use Rattle.tree.specs.WalkWords.{childWord, totalWord, totalByte}
 use Rattle.tree.proofs.Sums.{child-length, child-byte, sum-number, sum-byte}
 
 -- the node of level l in lane i is that part of the lane's bytes
@@ -88,7 +88,7 @@ total-here nodes i h =
 module _ (nodes a b : List ℕ)
     (left : (l : ℕ) → l < 4 → keyIn l a ≡ childOf 0 (keyIn l nodes)) (right : (l : ℕ) → l < 4 → keyIn l b ≡ childOf 1 (keyIn l nodes)) where
   -- the levels below: those of the left nodes and those of the right ones
-  total-below : (i : ℕ) → totalWord nodes (64 + i) ≡ bitXor (totalWord a i) (totalWord b i)
+  total-below : (i : ℕ) → totalWord nodes (64 + i) ≡ totalWord a i ⊕ totalWord b i
   unfolding sumBelow
   total-below i =
       let level : (64 + i) / 64 ≡ suc (i / 64) = omega arith in
@@ -125,22 +125,22 @@ module _ (nodes a b : List ℕ)
       l₃ : length t₃ ≡ length t₂
       l₃ = ap length e₃ ∙ xorPart-length t₂ 64 (length t₂ - 64) (totalWord b) r₃
 
-      at : (i : ℕ) → Dec (i < 64) → i < length t → getD t₃ i 0 ≡ bitXor (getD t i 0) (totalWord nodes i)
+      at : (i : ℕ) → Dec (i < 64) → i < length t → getD t₃ i 0 ≡ getD t i 0 ⊕ totalWord nodes i
       at i (yes lo) lt =
           ap (λ (l : List ℕ). getD l i 0) e₃ ∙ xorPart-before t₂ 64 (length t₂ - 64) (totalWord b) r₃ i lo
           ∙ ap (λ (l : List ℕ). getD l i 0) e₂ ∙ xorPart-before t₁ 64 (length t₁ - 64) (totalWord a) r₂ i lo
           ∙ ap₂ (λ (l : List ℕ) (j : ℕ). getD l j 0) e₁ (sym (zero-add i)) ∙ xorPart-in t 0 64 f₁ (omega arith) i lo
-          ∙ ap₂ (λ (j x : ℕ). bitXor (getD t j 0) x) (zero-add i) (ap (λ (l : List ℕ). getD l i 0) made ∙ sym (total-here nodes i lo))
+          ∙ ap₂ (λ (j x : ℕ). getD t j 0 ⊕ x) (zero-add i) (ap (λ (l : List ℕ). getD l i 0) made ∙ sym (total-here nodes i lo))
       at i (no hi) lt =
           let back : i ≡ 64 + (i - 64) = omega arith in
           ap₂ (λ (l : List ℕ) (j : ℕ). getD l j 0) e₃ back ∙ xorPart-in t₂ 64 (length t₂ - 64) (totalWord b) r₃ (i - 64) (omega (arith, l₁, l₂))
-          ∙ ap (λ (x : ℕ). bitXor x (totalWord b (i - 64)))
+          ∙ ap (λ (x : ℕ). x ⊕ totalWord b (i - 64))
           (ap (λ (l : List ℕ). getD l (64 + (i - 64)) 0) e₂ ∙ xorPart-in t₁ 64 (length t₁ - 64) (totalWord a) r₂ (i - 64) (omega (arith, l₁))
-          ∙ ap (λ (x : ℕ). bitXor x (totalWord a (i - 64)))
+          ∙ ap (λ (x : ℕ). x ⊕ totalWord a (i - 64))
           (ap (λ (l : List ℕ). getD l (64 + (i - 64)) 0) e₁ ∙ xorPart-after t 0 64 f₁ (omega arith) (64 + (i - 64)) (omega arith)))
           ∙ xor-assoc (getD t (64 + (i - 64)) 0) (totalWord a (i - 64)) (totalWord b (i - 64))
           ∙ ap (bitXor (getD t (64 + (i - 64)) 0)) (sym (total-below (i - 64)))
-          ∙ ap (λ (j : ℕ). bitXor (getD t j 0) (totalWord nodes j)) (sym back)
+          ∙ ap (λ (j : ℕ). getD t j 0 ⊕ totalWord nodes j) (sym back)
 
 -- ---- one lane of it, as bytes
 

@@ -7,7 +7,7 @@ use native.Mathlib.Omega.{arith}
 use lib.ListN.{length, take, length-append}
 use lib.Seq.{take-at, take-all, drop-at}
 use Rattle.words.specs.Bytes.{Bytes, bytes, word64, part, concat}
-use Rattle.words.proofs.Numbers.{number-bytes, word64-part}
+use Rattle.words.proofs.Numbers.{littleEndian-bytes, word64-part}
 use Rattle.words.proofs.Concat.{concat-length, concat-part, part-lt}
 use Rattle.gf64.specs.Field.{foldBytes}
 use Rattle.gf64.proofs.Bytes.{foldBytes-lt}
@@ -21,7 +21,7 @@ word-at s a x h e =
     ap (word64 s) start
     ∙ sym (word64-part s a 8 0 (omega arith))
     ∙ ap (λ (p : List ℕ). word64 p 0) e
-    ∙ number-bytes 8 x
+    ∙ littleEndian-bytes 8 x
     ∙ mod-eq-of-lt h
 
 -- all columns' folds, 8 bytes each

@@ -148,9 +148,9 @@ pub lane-rounds : (i l : ℕ) (w : List ℕ) → l < 4 → workOf (lane l 8 (rou
 unfolding roundsInLanes
 lane-rounds i l w h = ap workOf (lane-laned 8 (λ l. wordsOf (rounds i (scheduleIn l w) initial)) l h refl)
 
-pub lanes-more : (i : ℕ) (w : List ℕ) → fourInLanes i w (roundsInLanes i w) ≡ roundsInLanes (i + 4) w
+pub lanes-stepped : (i : ℕ) (w : List ℕ) → fourInLanes i w (roundsInLanes i w) ≡ roundsInLanes (i + 4) w
 unfolding fourInLanes roundsInLanes
-lanes-more i w =
+lanes-stepped i w =
     laned-is 8 (λ l. wordsOf (rounds (i + 4) (scheduleIn l w) initial)) (laned 8 f) (laned-length 8 f)
     (λ l h.
     lane-laned 8 f l h refl

@@ -4,8 +4,8 @@ use mathlib.Core.List.{List}
 use lib.ListN.{getD}
 use Rattle.words.specs.Bits.{bitOf}
 use Rattle.chacha20.specs.ChaCha.{blockWords}
-use Rattle.chacha20.specs.Nonce.{nonceOf}
-use Rattle.chacha20.specs.Lanes.{keyIn}
+use Rattle.tree.specs.Nonce.{nonceOf}
+use Rattle.chacha20.specs.FourStates.{keyIn}
 use Rattle.tree.specs.Tree.{sumBelow, childrenOf}
 
 -- word w of the children of a node
