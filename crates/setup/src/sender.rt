@@ -10,7 +10,7 @@ ghost use Rattle.tree.specs.WalkWords.{totalWord};
 ghost use Rattle.sizes.specs.Sizes.{columns};
 ghost use Rattle.setup.specs.Setup.{unmasked, nodesFound, siblingsOf};
 ghost use Rattle.tree.specs.Sides.{sidesOf, Sides, TreesFit};
-ghost use Rattle.setup.specs.Found.{foundIn};
+ghost use Rattle.setup.specs.Found.{FourSides, LevelsRoom, foundIn};
 
 // Fills out with one side's total of two, unmasked by a pad.
 fn unmask(out: &mut [u8], totals: &[u8], pad: &[u8], side: u8)
@@ -65,7 +65,7 @@ fn take_off(nodes: &mut [u32], totals: &[u32], sides: [u8; 4])
 // From the nodes found at a level to those of the next, in four trees of k levels: t has what the nodes found above it make at each
 // level, s the nodes found so far and the unmasked totals of the levels after them.
 fn next_level(k: usize, level: usize, sides: &[u8], t: &mut [u32], s: &mut [u32])
-    requires { ⌜ (level + 1 < k) × (k ≤ 8) × (length (now sides) ≡ 4 * k) × Sides (now sides) ⌝ }
+    requires { ⌜ (level + 1 < k) × FourSides k (now sides) ⌝ }
     requires { ⌜ (length (now t) ≡ 64 * k) × (length (now s) ≡ 32 * k) ⌝ }
     ensures { λ _. ⌜ now (t .exit) ≡ xorPart (now (t .entry)) (64 * (level + 1)) (64 * (k - 1 - level)) (totalWord (part (32 * level) 32 (now (s .entry)))) ⌝ }
     ensures { λ _. ⌜ now (s .exit) ≡ xorPart (now (s .entry)) (32 * (level + 1)) 32 (λ i. getD (now (t .exit)) (64 * (level + 1) + (32 * getD (now (sides .entry)) (i % 4 * k + (level + 1)) 0 + i)) 0) ⌝ }
@@ -86,8 +86,8 @@ fn next_level(k: usize, level: usize, sides: &[u8], t: &mut [u32], s: &mut [u32]
 
 // All levels of four trees of k levels.
 fn all_levels(k: usize, sides: &[u8], t: &mut [u32], s: &mut [u32])
-    requires { ⌜ (0 < k) × (k ≤ 8) × (length (now sides) ≡ 4 * k) × Sides (now sides) ⌝ }
-    requires { ⌜ (length (now t) ≡ 64 * k) × (length (now s) ≡ 32 * k) × ((i : ℕ) → getD (now t) i 0 ≡ 0) ⌝ }
+    requires { ⌜ FourSides k (now sides) ⌝ }
+    requires { ⌜ LevelsRoom k (now t) (now s) ⌝ }
     ensures { λ _. ⌜ ((i : ℕ) → i < 4 → laneBytes i (8 * k) (now (s .exit)) ≡ nodesFound (λ l. getD (now (sides .entry)) (i * k + l) 0) (laneBytes i (8 * k) (now (s .entry))) k) ⌝ }
 {
     let mut level = 0;
@@ -99,8 +99,8 @@ fn all_levels(k: usize, sides: &[u8], t: &mut [u32], s: &mut [u32])
 
 // The siblings of four trees of k levels, in the place of their unmasked totals, worked out in t and s. t is zero.
 fn four_in_lanes(k: usize, sides: &[u8], siblings: &mut [u8], t: &mut [u32], s: &mut [u32])
-    requires { ⌜ (0 < k) × (k ≤ 8) × (length (now sides) ≡ 4 * k) × Sides (now sides) × (length (now siblings) ≡ 4 * (32 * k)) ⌝ }
-    requires { ⌜ (length (now t) ≡ 64 * k) × (length (now s) ≡ 32 * k) × ((i : ℕ) → getD (now t) i 0 ≡ 0) ⌝ }
+    requires { ⌜ FourSides k (now sides) × (length (now siblings) ≡ 4 * (32 * k)) ⌝ }
+    requires { ⌜ LevelsRoom k (now t) (now s) ⌝ }
     ensures { λ _. ⌜ now (siblings .exit) ≡ foundIn k 4 (now (sides .entry)) (now (siblings .entry)) ⌝ }
 {
     words::load_lanes(s, siblings);
@@ -110,7 +110,7 @@ fn four_in_lanes(k: usize, sides: &[u8], siblings: &mut [u8], t: &mut [u32], s: 
 
 // The same, with room of its own.
 fn four_trees(k: usize, sides: &[u8], siblings: &mut [u8])
-    requires { ⌜ (0 < k) × (k ≤ 8) × (length (now sides) ≡ 4 * k) × Sides (now sides) × (length (now siblings) ≡ 4 * (32 * k)) ⌝ }
+    requires { ⌜ FourSides k (now sides) × (length (now siblings) ≡ 4 * (32 * k)) ⌝ }
     ensures { λ _. ⌜ now (siblings .exit) ≡ foundIn k 4 (now (sides .entry)) (now (siblings .entry)) ⌝ }
 {
     let m = 64 * k;

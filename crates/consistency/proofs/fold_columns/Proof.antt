@@ -17,19 +17,28 @@ use Rattle.consistency.proofs.Folds.{four-folds}
 use Rattle.consistency.proofs.fold_columns.Statement.{statement}
 use Rattle.consistency.proofs.fold_columns.Tie as tie
 
+-- the folds of the columns before i are there
+pub record Folded (m len : ℕ) (t table out : List ℕ) (i : ℕ) : Type 0 where
+  pub fours : i % 4 ≡ 0
+  pub low : i ≤ m
+  pub long : length out ≡ 8 * m
+  pub folds : (g : ℕ) → t ≡ keyTable g → take (i * 8) out ≡ concat i (λ c. bytes 8 (foldBytes g (columnOf len table c)))
+
 abbrev Inv-loop : tie.InvT-loop
-Inv-loop m len t table out₀ i₀ out i =
-    (i % 4 ≡ 0)
-    × (i ≤ m)
-    × (length out ≡ 8 * m)
-    × ((g : ℕ) → t ≡ keyTable g → take (i * 8) out ≡ concat i (λ c. bytes 8 (foldBytes g (columnOf len table c))))
+Inv-loop m len t table out₀ i₀ out i = Folded m len t table out i
 
 abbrev μ-loop : tie.MeasureT-loop
 μ-loop m len t table out₀ i₀ out i = m - i
 
 loop-holds : tie.Need-loop-holds Inv-loop μ-loop
 unfolding concat
-loop-holds c = (omega arith, omega arith, c .before .before .pre .2, λ g h. refl)
+loop-holds c =
+    record {
+      fours = omega arith;
+      low = omega arith;
+      long = c .before .before .pre .2;
+      folds = λ g h. refl;
+    }
 
 -- four columns from column i on are within the table
 abbrev Room : ℕ → ℕ → ℕ → Type 0
@@ -39,7 +48,7 @@ room : (c : tie.In-loop Inv-loop μ-loop) → (let s = c .before .before .before
 room c =
     let s = c .before .before .before .before in
     let i = c .before .loop .i in
-    let next : i + 4 ≤ s .args .m = omega (arith, c .before .loop .inv .0, s .pre .0, c .loop-test .taken) in
+    let next : i + 4 ≤ s .args .m = omega (arith, c .before .loop .inv .fours, s .pre .0, c .loop-test .taken) in
     (next, add-mul i 4 (s .args .len), mul-le-mul-right (s .args .len) next)
 
 add-next : tie.Need-add-next Inv-loop μ-loop
@@ -81,14 +90,14 @@ part-store-four-start : tie.Need-part-store-four-start Inv-loop μ-loop
 part-store-four-start c = omega (arith, room (c .before .before))
 
 part-store-four-end : tie.Need-part-store-four-end Inv-loop μ-loop
-part-store-four-end c = omega (arith, room (c .before .before), c .before .before .before .loop .inv .2)
+part-store-four-end c = omega (arith, room (c .before .before), c .before .before .before .loop .inv .long)
 
 store-four-requires : tie.Need-store-four-requires Inv-loop μ-loop
 store-four-requires c κs =
     let w = c .before .before .before .before .loop in
     let here = room (c .before .before .before) in
     let size : (w .i + 4) * 8 - w .i * 8 ≡ 32 = omega arith in
-    mid-len (w .i * 8) ((w .i + 4) * 8) (w .out) (omega (arith, here, w .inv .2)) ∙ size
+    mid-len (w .i * 8) ((w .i + 4) * 8) (w .out) (omega (arith, here, w .inv .long)) ∙ size
 
 loop-less : tie.Need-loop-less Inv-loop μ-loop
 loop-less c = omega (arith, room (c .before .before .before .before .before .before))
@@ -100,30 +109,31 @@ loop-again c =
     let here = room (c .before .before .before .before .before .before) in
     let folded = c .before .before .before .before .fold-four in
     let laid = c .before .before .store-four .ensures in
-    let fits : (w .i + 4) * 8 ≤ length (w .out) = omega (arith, here, w .inv .2) in
+    let fits : (w .i + 4) * 8 ≤ length (w .out) = omega (arith, here, w .inv .long) in
     let size : 32 ≡ (w .i + 4) * 8 - w .i * 8 = omega arith in
-    let long = concat-length (λ j. bytes 8 (getD (folded .result) j 0)) 8 4 (λ j h. refl) ∙ size in (
-      omega (arith, w .inv .0),
-      here .0,
-      kept-length (w .i * 8) ((w .i + 4) * 8) (w .out) _ _ laid long fits ∙ w .inv .2,
-      λ g h.
+    let long = concat-length (λ j. bytes 8 (getD (folded .result) j 0)) 8 4 (λ j h. refl) ∙ size in
+    record {
+      fours = omega (arith, w .inv .fours);
+      low = here .0;
+      long = kept-length (w .i * 8) ((w .i + 4) * 8) (w .out) _ _ laid long fits ∙ w .inv .long;
+      folds = λ g h.
           let f : ℕ → List ℕ = λ j. bytes 8 (foldBytes g (columnOf (s .args .len) (s .args .table .now) j)) in
           concat-grow f (w .i) 4 (w .i * 8) ((w .i + 4) * 8) (w .out) _
           (laid ∙ four-folds g (s .args .len) (w .i) (s .args .table .now) (folded .result) (folded .ensures g h))
-          (concat-length (λ j. f (w .i + j)) 8 4 (λ j h. refl) ∙ size) (omega arith) fits (w .inv .3 g h) .1,
-    )
+          (concat-length (λ j. f (w .i + j)) 8 4 (λ j h. refl) ∙ size) (omega arith) fits (w .inv .folds g h) .1;
+    }
 
 same-length : tie.Need-same-length Inv-loop μ-loop
-same-length c = c .before .loop .inv .2 ∙ sym (c .before .before .before .before .pre .2)
+same-length c = c .before .loop .inv .long ∙ sym (c .before .before .before .before .pre .2)
 
 returns : tie.Need-returns Inv-loop μ-loop
 returns c =
     let s = c .before .before .before .before in
     let w = c .before .loop in
-    let all : w .i ≡ s .args .m = omega (arith, w .inv .1, c .loop-test .left) in
+    let all : w .i ≡ s .args .m = omega (arith, w .inv .low, c .loop-test .left) in
     λ g h.
-    sym (take-all (w .i * 8) (w .out) (omega (arith, w .inv .2, all)))
-    ∙ w .inv .3 g h
+    sym (take-all (w .i * 8) (w .out) (omega (arith, w .inv .long, all)))
+    ∙ w .inv .folds g h
     ∙ ap (λ (i : ℕ). concat i (λ j. bytes 8 (foldBytes g (columnOf (s .args .len) (s .args .table .now) j)))) all
 
 pub fold-columns-spec : {M : Type 1} → statement M

@@ -13,16 +13,25 @@ use Rattle.pads.proofs.Inputs.{input-length}
 use Rattle.pads.proofs.four_inputs.Statement.{statement}
 use Rattle.pads.proofs.four_inputs.Tie as tie
 
+pub record Written (batch first : ℕ) (values out : List ℕ) (i : ℕ) : Type 0 where
+  pub low : i ≤ 4
+  pub long : length out ≡ 128
+  pub inputs : take (i * 32) out ≡ concat i (λ j. padInput batch (first + j) (part (j * 16) 16 values))
+
 abbrev Inv-loop : tie.InvT-loop
-Inv-loop out₀ batch first values i₀ out i =
-    (i ≤ 4) × (length out ≡ 128) × (take (i * 32) out ≡ concat i (λ j. padInput batch (first + j) (part (j * 16) 16 values)))
+Inv-loop out₀ batch first values i₀ out i = Written batch first values out i
 
 abbrev μ-loop : tie.MeasureT-loop
 μ-loop out₀ batch first values i₀ out i = 4 - i
 
 loop-holds : tie.Need-loop-holds Inv-loop μ-loop
 unfolding concat
-loop-holds c = (omega arith, c .before .before .pre .0, refl)
+loop-holds c =
+    record {
+      low = omega arith;
+      long = c .before .before .pre .0;
+      inputs = refl;
+    }
 
 add-next : tie.Need-add-next Inv-loop μ-loop
 add-next c = omega arith
@@ -69,7 +78,7 @@ write-input-requires c κs =
     let w = c .before .before .before .loop in
     let i = w .i in
     let below = c .before .before .loop-test .taken in (
-      mid-len (i * 32) ((i + 1) * 32) (w .out) (omega (arith, below, w .inv .1)) ∙ omega arith,
+      mid-len (i * 32) ((i + 1) * 32) (w .out) (omega (arith, below, w .inv .long)) ∙ omega arith,
       mid-len (i * 16) ((i + 1) * 16) (s .args .values .now) (omega (arith, below, s .pre .2)) ∙ omega arith,
     )
 
@@ -93,19 +102,23 @@ loop-again c =
     let long = ap length (sym one)
     ∙ input-length (a .batch) (a .first + i) (part (i * 16) 16 (a .values .now)) (part-length (i * 16) 16 (a .values .now) (omega (arith, below, s .pre .2)))
     ∙ whole in
-    let grown = concat-grow f i 1 (i * 32) ((i + 1) * 32) (w .out) _ (made ∙ one) long (omega arith) (omega (arith, below, w .inv .1)) (w .inv .2) in
-    (omega arith, grown .0 ∙ w .inv .1, grown .1)
+    let grown = concat-grow f i 1 (i * 32) ((i + 1) * 32) (w .out) _ (made ∙ one) long (omega arith) (omega (arith, below, w .inv .long)) (w .inv .inputs) in
+    record {
+      low = omega arith;
+      long = grown .0 ∙ w .inv .long;
+      inputs = grown .1;
+    }
 
 same-length : tie.Need-same-length Inv-loop μ-loop
-same-length c = c .before .loop .inv .1 ∙ sym (c .before .before .before .before .pre .0)
+same-length c = c .before .loop .inv .long ∙ sym (c .before .before .before .before .pre .0)
 
 returns : tie.Need-returns Inv-loop μ-loop
 returns c =
     let a = c .before .before .before .before .args in
     let w = c .before .loop in
     let all : w .i ≡ 4 = omega arith in
-    sym (take-all (w .i * 32) (w .out) (omega (arith, all, w .inv .1)))
-    ∙ w .inv .2
+    sym (take-all (w .i * 32) (w .out) (omega (arith, all, w .inv .long)))
+    ∙ w .inv .inputs
     ∙ ap (λ (i : ℕ). concat i (λ j. padInput (a .batch) (a .first + j) (part (j * 16) 16 (a .values .now)))) all
 
 pub four-inputs-spec : {M : Type 1} → statement M

@@ -14,6 +14,16 @@ use Rattle.columns.specs.Columns.{uOf, receiverColumn}
 use Rattle.receiver_columns.proofs.four_trees.Statement.{statement}
 use Rattle.receiver_columns.proofs.four_trees.Tie as tie
 
+-- where the proof comes back to: the calls before, and the entry
+abbrev entry : tie.After-walk-roots → tie.Start
+entry c = c .before .before .before .before .before .before .before .before .before
+
+abbrev at-walk : tie.After-hand-out-four-arg3 → tie.After-walk-roots
+at-walk c = c .before .before .before .before .before .before .before .before
+
+abbrev at-hand-out : tie.After-store-trees-arg2 → tie.After-hand-out-four
+at-hand-out c = c .before .before .before .before .before .before
+
 walk-roots-requires : tie.Need-walk-roots-requires
 walk-roots-requires c κs = omega arith
 
@@ -28,8 +38,8 @@ part-hand-out-four-end c = omega arith
 
 hand-out-four-requires : tie.Need-hand-out-four-requires
 hand-out-four-requires c κs =
-    let walked = c .before .before .before .before .before .before .before .before .walk-roots in
-    let s = c .before .before .before .before .before .before .before .before .before .before .before .before .before .before .before .before .before in
+    let walked = at-walk c .walk-roots in
+    let s = entry (at-walk c) in
     let len = s .args .len in
     let u = walked .last .1 .1 .1 .0 in
     let size : length (take (len - 0) u) ≡ len - 0 = length-take-le (len - 0) u (omega (arith, walked .kept .1 .1 .1 .0, s .pre .0 .room)) in
@@ -38,8 +48,8 @@ hand-out-four-requires c κs =
 
 store-trees-requires : tie.Need-store-trees-requires
 store-trees-requires c κs =
-    let walked = c .before .before .before .before .before .before .before .before .before .before .before .before .before .before .before .walk-roots in
-    let s = c .before .before .before .before .before .before .before .before .before .before .before .before .before .before .before .before .before .before .before .before .before .before .before .before in
+    let walked = at-walk (at-hand-out c .before) .walk-roots in
+    let s = entry (at-walk (at-hand-out c .before)) in
     let u = walked .kept .1 .1 .1 .0 in
     let v = walked .kept .1 .1 .1 .1 .0 in
     let fits = ap (λ (m : ℕ). s .args .k * m) u in
@@ -62,9 +72,9 @@ same-length-5 c = omega arith
 
 returns : tie.Need-returns
 returns c =
-    let handed = c .before .before .before .before .before .before .before .before .before in
-    let walked = c .before .before .before .before .before .before .before .before .before .before .before .before .before .before .before .before .before .before in
-    let s = c .before .before .before .before .before .before .before .before .before .before .before .before .before .before .before .before .before .before .before .before .before .before .before .before .before .before .before in
+    let handed = at-hand-out (c .before .before .before) in
+    let walked = at-walk (at-hand-out (c .before .before .before) .before) in
+    let s = entry (at-walk (at-hand-out (c .before .before .before) .before)) in
     let k = s .args .k in
     let len = s .args .len in
     let roots = s .args .roots .now in

@@ -12,12 +12,14 @@ use Rattle.receiver_columns.proofs.Starts.{put-none, handed-next}
 use Rattle.receiver_columns.proofs.hand_out_four.Statement.{statement}
 use Rattle.receiver_columns.proofs.hand_out_four.Tie as tie
 
+pub record Handed (i : ℕ) (u choices₀ correction₀ choices correction : List ℕ) (l : ℕ) : Type 0 where
+  pub low : l ≤ 4
+  pub choices-long : length choices ≡ length choices₀
+  pub correction-long : length correction ≡ length correction₀
+  pub laid : choices ++ correction ≡ put (choices₀ ++ correction₀) (i * length u) (concat l (λ l. laneBytes l (length u / 4) u))
+
 abbrev Inv-loop : tie.InvT-loop
-Inv-loop i u choices₀ correction₀ l₀ choices correction l =
-    (l ≤ 4)
-    × (length choices ≡ length choices₀)
-    × (length correction ≡ length correction₀)
-    × (choices ++ correction ≡ put (choices₀ ++ correction₀) (i * length u) (concat l (λ l. laneBytes l (length u / 4) u)))
+Inv-loop i u choices₀ correction₀ l₀ choices correction l = Handed i u choices₀ correction₀ choices correction l
 
 abbrev μ-loop : tie.MeasureT-loop
 μ-loop i u choices₀ correction₀ l₀ choices correction l = 4 - l
@@ -26,7 +28,12 @@ loop-holds : tie.Need-loop-holds Inv-loop μ-loop
 unfolding concat
 loop-holds c =
     let s = c .before .before .before in
-    (omega arith, refl, refl, put-none (s .args .choices .now ++ s .args .correction .now) (s .args .i * length (s .args .u .now)))
+    record {
+      low = omega arith;
+      choices-long = refl;
+      correction-long = refl;
+      laid = put-none (s .args .choices .now ++ s .args .correction .now) (s .args .i * length (s .args .u .now));
+    }
 
 add-hand-out : tie.Need-add-hand-out Inv-loop μ-loop
 add-hand-out c = omega arith
@@ -54,27 +61,28 @@ loop-again c =
     let m : ℕ = length u in
     let f : ℕ → List ℕ = λ l. laneBytes l (m / 4) u in
     let xs : List ℕ = s .args .choices .now ++ s .args .correction .now in
-    let fits : (s .args .i + 4) * m ≤ length xs = omega (arith, length-append (s .args .choices .now) (s .args .correction .now), s .pre, add-mul (s .args .i) 4 m, add-mul (s .args .i) 3 m) in (
-      omega (arith, call .before .before .before .loop-test .taken),
-      call .hand-out .kept .1 .1 .1 .0 ∙ w .inv .1,
-      call .hand-out .kept .1 .1 .1 .1 .0 ∙ w .inv .2,
-      handed-next f m (w .l) (s .args .i) xs (w .choices ++ w .correction) _ (λ l. laneBytes-length l (m / 4) u ∙ omega (arith, s .pre)) fits
-          (call .before .before .before .loop-test .taken) (w .inv .3) (call .hand-out .ensures),
-    )
+    let fits : (s .args .i + 4) * m ≤ length xs = omega (arith, length-append (s .args .choices .now) (s .args .correction .now), s .pre, add-mul (s .args .i) 4 m, add-mul (s .args .i) 3 m) in
+    record {
+      low = omega (arith, call .before .before .before .loop-test .taken);
+      choices-long = call .hand-out .kept .1 .1 .1 .0 ∙ w .inv .choices-long;
+      correction-long = call .hand-out .kept .1 .1 .1 .1 .0 ∙ w .inv .correction-long;
+      laid = handed-next f m (w .l) (s .args .i) xs (w .choices ++ w .correction) _ (λ l. laneBytes-length l (m / 4) u ∙ omega (arith, s .pre)) fits
+          (call .before .before .before .loop-test .taken) (w .inv .laid) (call .hand-out .ensures);
+    }
 
 same-length : tie.Need-same-length Inv-loop μ-loop
-same-length c = c .before .loop .inv .1
+same-length c = c .before .loop .inv .choices-long
 
 same-length-2 : tie.Need-same-length-2 Inv-loop μ-loop
-same-length-2 c = c .before .loop .inv .2
+same-length-2 c = c .before .loop .inv .correction-long
 
 returns : tie.Need-returns Inv-loop μ-loop
 returns c =
     let s = c .before .before .before .before .before in
     let w = c .before .loop in
     let u = s .args .u .now in
-    let all : w .l ≡ 4 = omega (arith, w .inv .0) in
-    w .inv .3
+    let all : w .l ≡ 4 = omega (arith, w .inv .low) in
+    w .inv .laid
     ∙ ap (λ (n : ℕ). put (s .args .choices .now ++ s .args .correction .now) (s .args .i * length u) (concat n (λ l. laneBytes l (length u / 4) u))) all
 
 pub hand-out-four-spec : {M : Type 1} → statement M

@@ -14,6 +14,16 @@ use Rattle.receiver_columns.proofs.Starts.{u-length, choices-are, corre
 use Rattle.receiver_columns.proofs.start.Statement.{statement}
 use Rattle.receiver_columns.proofs.start.Tie as tie
 
+-- where the proof comes back to: the calls before, and the entry
+abbrev entry : tie.After-room → tie.Start
+entry c = c .before .before .before .before .before
+
+abbrev at-room : tie.After-trees-arg3 → tie.After-room
+at-room c = c .before .before .before .before .before
+
+abbrev at-trees : tie.After-xor-parts-arg2 → tie.After-trees
+at-trees c = c .before .before .before .before .before .before .before .before .before .before
+
 room-requires : tie.Need-room-requires
 room-requires c κs = omega arith
 
@@ -44,7 +54,7 @@ part-v-start c = omega arith
 part-v-end : tie.Need-part-v-end
 part-v-end c =
     let r = c .before .room in
-    let s = c .before .before .before .before .before .before in
+    let s = entry (c .before) in
     let k = s .args .k in
     let short : r .result ≤ 128 = omega (arith, r .ensures, s .pre .0 .short) in
     let size = columns-fit k (r .result) (s .pre .1 .trees .shallow) short in
@@ -53,7 +63,7 @@ part-v-end c =
 trees-requires : tie.Need-trees-requires
 trees-requires c κs =
     let r = c .before .before .before .before .before .room in
-    let s = c .before .before .before .before .before .before .before .before .before .before in
+    let s = entry (at-room c) in
     let k = s .args .k in
     let short : r .result ≤ 128 = omega (arith, r .ensures, s .pre .0 .short) in
     let size = columns-fit k (r .result) (s .pre .1 .trees .shallow) short in
@@ -72,12 +82,12 @@ trees-requires c κs =
     )
 
 sub-xor-parts : tie.Need-sub-xor-parts
-sub-xor-parts c = omega (arith, c .before .before .before .before .before .before .before .before .before .before .before .before .before .before .before .before .before .before .before .before .pre .1 .trees .some)
+sub-xor-parts c = omega (arith, entry (at-room (c .before .before .before .before .before .before .before .before .before .before)) .pre .1 .trees .some)
 
 xor-parts-requires : tie.Need-xor-parts-requires
 xor-parts-requires c κs =
-    let s = c .before .before .before .before .before .before .before .before .before .before .before .before .before .before .before .before .before .before .before .before .before in
-    let did = c .before .before .before .before .before .before .before .before .before .before .trees in
+    let s = entry (at-room (at-trees c .before)) in
+    let did = at-trees c .trees in
     let long = did .kept .1 .1 .1 .1 .1 .1 .1 .0 in (
       omega (arith, few-trees (s .args .n) (s .args .k) (s .pre .1 .trees)),
       omega (arith, long, s .pre .0 .short),
@@ -96,8 +106,8 @@ same-length-3 c = omega arith
 returns : tie.Need-returns
 unfolding correctionOf
 returns c =
-    let did = c .before .before .before .before .before .before .before .before .before .before .before .before .before .trees in
-    let s = c .before .before .before .before .before .before .before .before .before .before .before .before .before .before .before .before .before .before .before .before .before .before .before .before in
+    let did = at-trees (c .before .before .before) .trees in
+    let s = entry (at-room (at-trees (c .before .before .before) .before)) in
     let k = s .args .k in
     let n = s .args .n in
     let stream = byteOf (s .args .stream) in

@@ -34,6 +34,16 @@ Inv-loop n k stream len roots u₀ v₀ choices₀ correction₀ table₀ size i
 abbrev μ-loop : tie.MeasureT-loop
 μ-loop n k stream len roots u₀ v₀ choices₀ correction₀ table₀ size i₀ u v choices correction table i = n - i
 
+-- where the proof comes back to: the turn of the loop, and the entry
+abbrev entry : tie.In-loop Inv-loop μ-loop → tie.Start Inv-loop μ-loop
+entry c = c .before .before .before .before .before .before .before .before
+
+abbrev turn : tie.After-four-trees-arg6 Inv-loop μ-loop → tie.In-loop Inv-loop μ-loop
+turn c = c .before .before .before .before .before .before
+
+abbrev at-call : tie.After-slice-known10 Inv-loop μ-loop → tie.After-four-trees Inv-loop μ-loop
+at-call c = c .before .before .before .before .before .before .before .before .before .before
+
 mul-size : tie.Need-mul-size Inv-loop μ-loop
 mul-size c =
     let s = c .before .before .before .before .before .before in
@@ -63,7 +73,7 @@ abbrev Room : ℕ → ℕ → ℕ → Type 0
 Room n m i = (n * m ≤ 131072) × ((i + 4) * m ≡ i * m + 4 * m) × ((i + 4) * m ≤ n * m)
 
 room : (c : tie.In-loop Inv-loop μ-loop)
-    → (let s = c .before .before .before .before .before .before .before .before in
+    → (let s = entry c in
     let w = c .before .loop in
     (w .i + 4 ≤ s .args .n)
     × (s .args .n ≤ 128)
@@ -72,7 +82,7 @@ room : (c : tie.In-loop Inv-loop μ-loop)
     × (length (s .args .roots .now) ≡ s .args .n * 32)
     × (length (w .table) ≡ s .args .n * (s .args .k * s .args .len)))
 room c =
-    let s = c .before .before .before .before .before .before .before .before in
+    let s = entry c in
     let w = c .before .loop in
     let n = s .args .n in
     let len = s .args .len in
@@ -125,9 +135,9 @@ part-four-trees-end-2 c = omega (arith, room (c .before .before .before .before 
 
 four-trees-requires : tie.Need-four-trees-requires Inv-loop μ-loop
 four-trees-requires c κs =
-    let s = c .before .before .before .before .before .before .before .before .before .before .before .before .before .before in
-    let w = c .before .before .before .before .before .before .before .loop in
-    let here = room (c .before .before .before .before .before .before) in
+    let s = entry (turn c) in
+    let w = turn c .before .loop in
+    let here = room (turn c) in
     let fits = s .pre .0 in
     let i = w .i in
     let len = s .args .len in
@@ -152,11 +162,11 @@ four-trees-requires c κs =
     )
 
 loop-less : tie.Need-loop-less Inv-loop μ-loop
-loop-less c = omega (arith, room (c .before .before .before .before .before .before .before .before .before .before .before .before .before .before .before .before .before))
+loop-less c = omega (arith, room (turn (at-call c .before)))
 
 loop-again : tie.Need-loop-again Inv-loop μ-loop
 loop-again c =
-    let call = c .before .before .before .before .before .before .before .before .before .before in
+    let call = at-call c in
     let w = call .before .before .before .before .before .before .before .before .loop in
     let s = call .before .before .before .before .before .before .before .before .before .before .before .before .before .before .before in
     let next = room (call .before .before .before .before .before .before .before) .0 in

@@ -17,6 +17,16 @@ use Rattle.sender_columns.proofs.Masked.{every-side, every-lane}
 use Rattle.sender_columns.proofs.add_level.Statement.{statement}
 use Rattle.sender_columns.proofs.add_level.Tie as tie
 
+-- where the proof comes back to: the calls before, and the entry
+abbrev entry : tie.After-of-four → tie.Start
+entry c = c .before .before .before .before .before .before .before
+
+abbrev at-mask : tie.After-walk-arg3 → tie.After-add-where
+at-mask c = c .before .before .before .before .before .before
+
+abbrev at-walk : tie.After-add-where-arg4 → tie.After-walk
+at-walk c = c .before .before .before .before .before .before
+
 -- word i of u where its lane's side at a level is 1
 abbrev ofSide : ℕ → ℕ → List ℕ → List ℕ → ℕ → ℕ
 ofSide k level sides u i = getD (tabulate 4 (λ j. getD sides (j * k + level) 0)) (i % 4) 0 * getD u i 0
@@ -61,7 +71,7 @@ of-four-requires c κs = omega arith
 
 add-where-requires : tie.Need-add-where-requires
 add-where-requires c κs =
-    let s = c .before .before .before .before .before .before .before in
+    let s = entry c in
     let n = length (now (s .args .u)) in
     let at : ℕ = (s .args .k - 1 - s .args .level) * n in
     let size : at + n - at ≡ n = omega arith in (
@@ -75,13 +85,13 @@ add-where-requires c κs =
 
 -- the first addition
 added : (c : tie.After-add-where)
-    → let s = c .before .before .before .before .before .before .before .before in
+    → let s = entry (c .before) in
     let n = length (now (s .args .u)) in
     let at = (s .args .k - 1 - s .args .level) * n in
     let v′ = putMid at (at + n - at) (now (s .args .v)) (c .add-where .last .0) in
     (v′ ≡ xorPart (now (s .args .v)) at n (ofSide (s .args .k) (s .args .level) (now (s .args .sides)) (now (s .args .u)))) × (length v′ ≡ length (now (s .args .v)))
 added c =
-    let s = c .before .before .before .before .before .before .before .before in
+    let s = entry (c .before) in
     let v = now (s .args .v) in
     let u = now (s .args .u) in
     let n = length u in
@@ -99,13 +109,13 @@ nodes-at-requires c κs = omega arith
 
 walk-requires : tie.Need-walk-requires
 walk-requires c κs =
-    let s = c .before .before .before .before .before .before .before .before .before .before .before .before .before .before in
-    let v = added (c .before .before .before .before .before .before) in
+    let s = entry (at-mask c .before) in
+    let v = added (at-mask c) in
     (omega (arith, fits s .1, v .1), (s .pre .1 .0, s .pre .1 .1, s .pre .1 .2))
 
 -- the walk: u and v after it
 walked : (c : tie.After-walk)
-    → let s = c .before .before .before .before .before .before .before .before .before .before .before .before .before .before .before in
+    → let s = entry (at-mask (c .before) .before) in
     let u = now (s .args .u) in
     let r = s .args .k - 1 - s .args .level in
     let nodes = part (32 * s .args .level) 32 (now (s .args .s)) in
@@ -115,12 +125,12 @@ walked : (c : tie.After-walk)
     × (c .walk .last .1 .1 .1 .1 .0 ≡ xorEach v (columnWord (wordOf (s .args .stream)) (length u) r nodes))
     × (length (c .walk .last .1 .1 .1 .1 .0) ≡ length (now (s .args .v)))
 walked c =
-    let s = c .before .before .before .before .before .before .before .before .before .before .before .before .before .before .before in
+    let s = entry (at-mask (c .before) .before) in
     let u = now (s .args .u) in
     let n = length u in
     let r : ℕ = s .args .k - 1 - s .args .level in
     let nodes = part (32 * s .args .level) 32 (now (s .args .s)) in
-    let first = added (c .before .before .before .before .before .before .before) in
+    let first = added (at-mask (c .before)) in
     let found = c .before .before .before .before .nodes-at .ensures in
     let made = c .walk .ensures .0 ∙ ap (λ (m : List ℕ). xorEach u (uWord (wordOf (s .args .stream)) r m)) found in
     let columns = c .walk .ensures .1 ∙ ap₂ (λ (m z : List ℕ). xorEach z (columnWord (wordOf (s .args .stream)) n r m)) found (first .0) in (
@@ -132,15 +142,15 @@ walked c =
 
 -- column r is inside it, and u is as long as it was
 inside : (c : tie.After-walk)
-    → let s = c .before .before .before .before .before .before .before .before .before .before .before .before .before .before .before in
+    → let s = entry (at-mask (c .before) .before) in
     let n = length (now (s .args .u)) in
     ((s .args .k - 1 - s .args .level) * n + n ≤ length (c .walk .last .1 .1 .1 .1 .0)) × (length (c .walk .last .1 .1 .1 .0) ≡ n)
 inside c =
     let w = walked c in
-    (omega (arith, w .3, fits (c .before .before .before .before .before .before .before .before .before .before .before .before .before .before .before) .0), w .1)
+    (omega (arith, w .3, fits (entry (at-mask (c .before) .before)) .0), w .1)
 
 mul-add-where-2 : tie.Need-mul-add-where-2
-mul-add-where-2 c = omega (arith, fits (c .before .before .before .before .before .before .before .before .before .before .before .before .before .before .before .before .before .before .before))
+mul-add-where-2 c = omega (arith, fits (entry (at-mask (c .before .before .before .before .before) .before)))
 
 sub-add-where-2 : tie.Need-sub-add-where-2
 sub-add-where-2 c = omega arith
@@ -153,12 +163,12 @@ part-add-where-end-2 c = omega (arith, inside (c .before .before .before .before
 
 add-where-requires-2 : tie.Need-add-where-requires-2
 add-where-requires-2 c κs =
-    let s = c .before .before .before .before .before .before .before .before .before .before .before .before .before .before .before .before .before .before .before .before .before in
+    let s = entry (at-mask (at-walk c .before) .before) in
     let n = length (now (s .args .u)) in
     let at : ℕ = (s .args .k - 1 - s .args .level) * n in
-    let here = inside (c .before .before .before .before .before .before) in
+    let here = inside (at-walk c) in
     let size : at + n - at ≡ n = omega arith in
-    (mid-len at (at + n) (c .before .before .before .before .before .before .walk .last .1 .1 .1 .1 .0) (here .0) ∙ size ∙ sym (here .1), omega (arith, here .1, s .pre .1 .0), every-side)
+    (mid-len at (at + n) (at-walk c .walk .last .1 .1 .1 .1 .0) (here .0) ∙ size ∙ sym (here .1), omega (arith, here .1, s .pre .1 .0), every-side)
 
 same-length : tie.Need-same-length
 same-length c = omega arith
@@ -168,12 +178,12 @@ same-length-2 c = omega arith
 
 returns : tie.Need-returns
 returns c =
-    let s = c .before .before .before .before .before .before .before .before .before .before .before .before .before .before .before .before .before .before .before .before .before .before .before .before in
-    let w = walked (c .before .before .before .before .before .before .before .before .before) in
+    let s = entry (at-mask (at-walk (c .before .before .before) .before) .before) in
+    let w = walked (at-walk (c .before .before .before)) in
     let n = length (now (s .args .u)) in
     let at : ℕ = (s .args .k - 1 - s .args .level) * n in
-    let u = c .before .before .before .before .before .before .before .before .before .walk .last .1 .1 .1 .0 in
-    let v = c .before .before .before .before .before .before .before .before .before .walk .last .1 .1 .1 .1 .0 in (
+    let u = at-walk (c .before .before .before) .walk .last .1 .1 .1 .0 in
+    let v = at-walk (c .before .before .before) .walk .last .1 .1 .1 .1 .0 in (
       w .0,
       part-added at (at + n) n v _ (λ i. getD u i 0) refl
           (c .before .before .add-where2 .ensures ∙ xorEach-cong (part at (at + n - at) v) _ (λ i. getD u i 0) (λ i lt. every-lane i (getD u i 0)))

@@ -42,6 +42,16 @@ Inv-loop n k stream len sides siblings correction s₀ u₀ v₀ table₀ size w
 abbrev μ-loop : tie.MeasureT-loop
 μ-loop n k stream len sides siblings correction s₀ u₀ v₀ table₀ size wide i₀ s u v table i = n - i
 
+-- where the proof comes back to: the turn of the loop, and the entry
+abbrev entry : tie.In-loop Inv-loop μ-loop → tie.Start Inv-loop μ-loop
+entry c = c .before .before .before .before .before .before .before .before .before
+
+abbrev turn : tie.After-four-trees-arg6 Inv-loop μ-loop → tie.In-loop Inv-loop μ-loop
+turn c = c .before .before .before .before .before .before
+
+abbrev at-call : tie.After-slice-known8 Inv-loop μ-loop → tie.After-four-trees Inv-loop μ-loop
+at-call c = c .before .before .before .before .before .before .before .before
+
 mul-size : tie.Need-mul-size Inv-loop μ-loop
 mul-size c = omega (arith, c .before .before .before .before .before .before .before .pre .0 .0 .shallow)
 
@@ -72,9 +82,9 @@ Room n k len i =
     × (((i + 4) * (k * len) ≡ i * (k * len) + 4 * (k * len)) × ((i + 4) * (k * len) ≤ n * (k * len)) × (n * (k * len) ≤ 16384))
     × ((i + 3) * len ≤ (n - 1) * len)
 
-room : (c : tie.In-loop Inv-loop μ-loop) → (let s = c .before .before .before .before .before .before .before .before .before in Room (s .args .n) (s .args .k) (s .args .len) (c .before .loop .i))
+room : (c : tie.In-loop Inv-loop μ-loop) → (let s = entry c in Room (s .args .n) (s .args .k) (s .args .len) (c .before .loop .i))
 room c =
-    let s = c .before .before .before .before .before .before .before .before .before in
+    let s = entry c in
     let n = s .args .n in
     let k = s .args .k in
     let len = s .args .len in
@@ -120,16 +130,16 @@ part-four-trees-start : tie.Need-part-four-trees-start Inv-loop μ-loop
 part-four-trees-start c = omega (arith, room c)
 
 part-four-trees-end : tie.Need-part-four-trees-end Inv-loop μ-loop
-part-four-trees-end c = omega (arith, room c, c .before .before .before .before .before .before .before .before .before .pre .0 .1 .sides-long)
+part-four-trees-end c = omega (arith, room c, entry c .pre .0 .1 .sides-long)
 
 sub-four-trees-2 : tie.Need-sub-four-trees-2 Inv-loop μ-loop
-sub-four-trees-2 c = omega (arith, room (c .before), c .before .before .before .before .before .before .before .before .before .before .pre .0 .1 .siblings-long)
+sub-four-trees-2 c = omega (arith, room (c .before), entry (c .before) .pre .0 .1 .siblings-long)
 
 part-four-trees-start-2 : tie.Need-part-four-trees-start-2 Inv-loop μ-loop
-part-four-trees-start-2 c = omega (arith, room (c .before), c .before .before .before .before .before .before .before .before .before .before .pre .0 .1 .siblings-long)
+part-four-trees-start-2 c = omega (arith, room (c .before), entry (c .before) .pre .0 .1 .siblings-long)
 
 part-four-trees-end-2 : tie.Need-part-four-trees-end-2 Inv-loop μ-loop
-part-four-trees-end-2 c = omega (arith, room (c .before), c .before .before .before .before .before .before .before .before .before .before .pre .0 .1 .siblings-long)
+part-four-trees-end-2 c = omega (arith, room (c .before), entry (c .before) .pre .0 .1 .siblings-long)
 
 sub-four-trees-3 : tie.Need-sub-four-trees-3 Inv-loop μ-loop
 sub-four-trees-3 c = omega (arith, room (c .before .before .before .before .before), c .before .before .before .before .before .before .loop .inv .table-long)
@@ -142,9 +152,9 @@ part-four-trees-end-3 c = omega (arith, room (c .before .before .before .before 
 
 four-trees-requires : tie.Need-four-trees-requires Inv-loop μ-loop
 four-trees-requires c κs =
-    let s = c .before .before .before .before .before .before .before .before .before .before .before .before .before .before .before in
-    let w = c .before .before .before .before .before .before .before .loop in
-    let here = room (c .before .before .before .before .before .before) in
+    let s = entry (turn c) in
+    let w = turn c .before .loop in
+    let here = room (turn c) in
     let k = s .args .k in
     let len = s .args .len in
     let sides = now (s .args .sides) in
@@ -184,18 +194,18 @@ four-trees-requires c κs =
     )
 
 loop-less : tie.Need-loop-less Inv-loop μ-loop
-loop-less c = omega (arith, room (c .before .before .before .before .before .before .before .before .before .before .before .before .before .before .before))
+loop-less c = omega (arith, room (turn (at-call c .before)))
 
 loop-again : tie.Need-loop-again Inv-loop μ-loop
 loop-again c =
-    let s = c .before .before .before .before .before .before .before .before .before .before .before .before .before .before .before .before .before .before .before .before .before .before .before .before in
-    let w = c .before .before .before .before .before .before .before .before .before .before .before .before .before .before .before .before .loop in
-    let here = room (c .before .before .before .before .before .before .before .before .before .before .before .before .before .before .before) in
+    let s = entry (turn (at-call c .before)) in
+    let w = turn (at-call c .before) .before .loop in
+    let here = room (turn (at-call c .before)) in
     let n = s .args .n in
     let k = s .args .k in
     let len = s .args .len in
     let stream = byteOf (s .args .stream) in
-    let f = c .before .before .before .before .before .before .before .before .four-trees in
+    let f = at-call c .four-trees in
     let sides = now (s .args .sides) in
     let siblings = now (s .args .siblings) in
     let correction = now (s .args .correction) in

@@ -19,6 +19,22 @@ use Rattle.sender_columns.proofs.Groups.{lanes-front, same-correction}
 use Rattle.sender_columns.proofs.four_trees.Statement.{statement}
 use Rattle.sender_columns.proofs.four_trees.Tie as tie
 
+-- where the proof comes back to: the calls before, and the entry
+abbrev entry : tie.After-clear → tie.Start
+entry c = c .before .before .before .before .before .before .before .before .before
+
+abbrev at-clear : tie.After-load-corrections-arg → tie.After-clear
+at-clear c = c .before .before .before .before .before .before .before
+
+abbrev at-corrections : tie.After-load-lanes → tie.After-load-corrections
+at-corrections c = c .before .before .before .before
+
+abbrev at-lanes : tie.After-add-levels-arg3 → tie.After-load-lanes
+at-lanes c = c .before .before .before .before .before
+
+abbrev at-levels : tie.After-store-trees-arg2 → tie.After-add-levels
+at-levels c = c .before .before .before .before .before .before
+
 clear-requires : tie.Need-clear-requires
 clear-requires c κs = omega arith
 
@@ -36,9 +52,9 @@ part-load-corrections-end c = omega arith
 
 load-corrections-requires : tie.Need-load-corrections-requires
 load-corrections-requires c κs =
-    let s = c .before .before .before .before .before .before .before .before .before .before .before .before .before .before .before .before in
+    let s = entry (at-clear c) in
     let len = s .args .len in
-    let clear = c .before .before .before .before .before .before .before .clear in
+    let clear = at-clear c .clear in
     let cleared = clear .last .0 in
     let cut : len - 0 ≡ len = omega arith in
     let mid : length (midOf 0 (len - 0) cleared) ≡ len = mid-len 0 len cleared (omega (arith, clear .kept .0, s .pre .1 .1 .room)) ∙ cut in
@@ -56,16 +72,16 @@ load-lanes-requires c κs = omega arith
 
 -- u, with the corrections in its first words
 loaded : (c : tie.After-load-corrections)
-    → (let s = c .before .before .before .before .before .before .before .before .before .before .before .before .before .before .before .before .before in
+    → (let s = entry (at-clear (c .before)) in
     let len = s .args .len in
-    let u = c .load-corrections .last .1 .1 .0 ++ postOf 0 (len - 0) (c .before .before .before .before .before .before .before .before .clear .last .0) in
+    let u = c .load-corrections .last .1 .1 .0 ++ postOf 0 (len - 0) (at-clear (c .before) .clear .last .0) in
     (length u ≡ length (now (s .args .u)))
     × ((l : ℕ) → l < 4 → LaneHas len l (treeCorrection len (now (s .args .correction)) (s .args .i + l)) u))
 loaded c =
-    let s = c .before .before .before .before .before .before .before .before .before .before .before .before .before .before .before .before .before in
+    let s = entry (at-clear (c .before)) in
     let len = s .args .len in
-    let cleared = c .before .before .before .before .before .before .before .before .clear .last .0 in
-    let all = c .before .before .before .before .before .before .before .before .clear .kept .0 in
+    let cleared = at-clear (c .before) .clear .last .0 in
+    let all = at-clear (c .before) .clear .kept .0 in
     let ys = c .load-corrections .last .1 .1 .0 in
     let kept = c .load-corrections .kept .1 .1 .0 in
     let cut : len - 0 ≡ len = omega arith in
@@ -78,9 +94,9 @@ loaded c =
 
 add-levels-requires : tie.Need-add-levels-requires
 add-levels-requires c κs =
-    let s = c .before .before .before .before .before .before .before .before .before .before .before .before .before .before .before .before .before .before .before .before .before .before .before .before .before .before in
-    let long = loaded (c .before .before .before .before .before .before .before .before .before) .0 in
-    let clear = c .before .before .before .before .before .before .before .before .before .before .before .before .before .clear2 in (
+    let s = entry (at-clear (at-corrections (at-lanes c) .before)) in
+    let long = loaded (at-corrections (at-lanes c)) .0 in
+    let clear = at-corrections (at-lanes c) .before .before .before .before .clear2 in (
       (s .pre .1 .1 .shallow, s .pre .0 .0 .sides-long, s .pre .0 .0 .sides-low, c .before .before .before .before .before .load-lanes .kept .0 ∙ s .pre .1 .0),
       (
         omega (arith, long, s .pre .1 .1 .blocks),
@@ -93,10 +109,10 @@ add-levels-requires c κs =
 
 store-trees-requires : tie.Need-store-trees-requires
 store-trees-requires c κs =
-    let s = c .before .before .before .before .before .before .before .before .before .before .before .before .before .before .before .before .before .before .before .before .before .before .before .before .before .before .before .before .before .before .before .before .before in
-    let done = c .before .before .before .before .before .before .add-levels in
-    let long = done .kept .1 .1 .1 .1 .0 ∙ loaded (c .before .before .before .before .before .before .before .before .before .before .before .before .before .before .before .before) .0 in
-    let all = done .kept .1 .1 .1 .1 .1 .0 ∙ c .before .before .before .before .before .before .before .before .before .before .before .before .before .before .before .before .before .before .before .before .clear2 .kept .0 ∙ s .pre .1 .1 .columns ∙ ap (λ (n : ℕ). s .args .k * n) (sym long) in (
+    let s = entry (at-clear (at-corrections (at-lanes (at-levels c .before)) .before)) in
+    let done = at-levels c .add-levels in
+    let long = done .kept .1 .1 .1 .1 .0 ∙ loaded (at-corrections (at-lanes (at-levels c .before))) .0 in
+    let all = done .kept .1 .1 .1 .1 .1 .0 ∙ at-corrections (at-lanes (at-levels c .before)) .before .before .before .before .clear2 .kept .0 ∙ s .pre .1 .1 .columns ∙ ap (λ (n : ℕ). s .args .k * n) (sym long) in (
       (s .pre .1 .1 .shallow, omega (arith, long, s .pre .1 .1 .room), omega (arith, long, s .pre .1 .1 .short), s .pre .1 .1 .whole),
       (omega (arith, all), s .pre .0 .1 .table-long),
     )
@@ -115,15 +131,15 @@ same-length-4 c = omega arith
 
 returns : tie.Need-returns
 returns c d h =
-    let s = c .before .before .before .before .before .before .before .before .before .before .before .before .before .before .before .before .before .before .before .before .before .before .before .before .before .before .before .before .before .before .before .before .before .before .before .before in
+    let s = entry (at-clear (at-corrections (at-lanes (at-levels (c .before .before .before) .before)) .before)) in
     let k = s .args .k in
     let len = s .args .len in
-    let done = c .before .before .before .before .before .before .before .before .before .add-levels in
-    let u = loaded (c .before .before .before .before .before .before .before .before .before .before .before .before .before .before .before .before .before .before .before) in
+    let done = at-levels (c .before .before .before) .add-levels in
+    let u = loaded (at-corrections (at-lanes (at-levels (c .before .before .before) .before))) in
     let v = done .last .1 .1 .1 .1 .1 .0 in
-    let siblings = c .before .before .before .before .before .before .before .before .before .before .before .before .before .before .before .load-lanes in
+    let siblings = at-lanes (at-levels (c .before .before .before) .before) .load-lanes in
     let words : length (now (s .args .s)) / 4 ≡ 8 * k = omega (arith, s .pre .1 .0) in
-    let room : List ℕ = c .before .before .before .before .before .before .before .before .before .before .before .before .before .before .before .before .before .before .before .load-corrections .last .1 .1 .0 ++ postOf 0 (len - 0) (c .before .before .before .before .before .before .before .before .before .before .before .before .before .before .before .before .before .before .before .before .before .before .before .before .before .before .before .clear .last .0) in
+    let room : List ℕ = at-corrections (at-lanes (at-levels (c .before .before .before) .before)) .load-corrections .last .1 .1 .0 ++ postOf 0 (len - 0) (at-clear (at-corrections (at-lanes (at-levels (c .before .before .before) .before)) .before) .clear .last .0) in
     c .before .before .store-trees .ensures
     ∙ concat-same 4 _ _
     (λ i hi.

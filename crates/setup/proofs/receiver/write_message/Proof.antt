@@ -21,6 +21,10 @@ Inv-loop n k roots pads message₀ size i₀ message i =
 abbrev μ-loop : tie.MeasureT-loop
 μ-loop n k roots pads message₀ size i₀ message i = n - i
 
+-- where the proof comes back to: the turn of the loop, and the entry
+abbrev entry : tie.In-loop Inv-loop μ-loop → tie.Start Inv-loop μ-loop
+entry c = c .before .before .before .before .before
+
 mul-size : tie.Need-mul-size Inv-loop μ-loop
 mul-size c = omega (arith, c .before .before .before .pre .0)
 
@@ -78,7 +82,7 @@ part-four-messages-start-2 : tie.Need-part-four-messages-start-2 Inv-loop μ-loo
 part-four-messages-start-2 c = omega (arith, room (c .before))
 
 part-four-messages-end-2 : tie.Need-part-four-messages-end-2 Inv-loop μ-loop
-part-four-messages-end-2 c = omega (arith, room (c .before), c .before .before .before .before .before .before .pre)
+part-four-messages-end-2 c = omega (arith, room (c .before), entry (c .before) .pre)
 
 sub-four-messages-3 : tie.Need-sub-four-messages-3 Inv-loop μ-loop
 sub-four-messages-3 c = omega (arith, room (c .before .before))
@@ -91,7 +95,7 @@ part-four-messages-end-3 c = omega (arith, room (c .before .before), c .before .
 
 four-messages-requires : tie.Need-four-messages-requires Inv-loop μ-loop
 four-messages-requires c κs =
-    let s = c .before .before .before .before .before .before .before .before in
+    let s = entry (c .before .before .before) in
     let w = c .before .before .before .before .loop in
     let here = room (c .before .before .before) in
     let a : ℕ = w .i * (64 * s .args .k) in
@@ -108,7 +112,7 @@ loop-less c = omega (arith, room (c .before .before .before .before .before .bef
 
 loop-again : tie.Need-loop-again Inv-loop μ-loop
 loop-again c =
-    let s = c .before .before .before .before .before .before .before .before .before .before .before in
+    let s = entry (c .before .before .before .before .before .before) in
     let w = c .before .before .before .before .before .before .before .loop in
     let here = room (c .before .before .before .before .before .before) in
     let k = s .args .k in

@@ -15,14 +15,20 @@ use Rattle.setup.proofs.Levels.{found-length, four-found}
 use Rattle.setup.proofs.sender.all_trees.Statement.{statement}
 use Rattle.setup.proofs.sender.all_trees.Tie as tie
 
+pub record Found (n k : ℕ) (sides siblings₀ siblings : List ℕ) (i : ℕ) : Type 0 where
+  pub fours : i % 4 ≡ 0
+  pub laid : Laid n (32 * k) (λ j. nodesFound (λ l. getD sides (j * k + l) 0) (treePart k 32 j siblings₀) k) i siblings
+  pub rest : drop (i * (32 * k)) siblings ≡ drop (i * (32 * k)) siblings₀
+
 abbrev Inv-loop : tie.InvT-loop
-Inv-loop n k sides siblings₀ size i₀ siblings i =
-    (i % 4 ≡ 0)
-    × Laid n (32 * k) (λ j. nodesFound (λ l. getD sides (j * k + l) 0) (treePart k 32 j siblings₀) k) i siblings
-    × (drop (i * (32 * k)) siblings ≡ drop (i * (32 * k)) siblings₀)
+Inv-loop n k sides siblings₀ size i₀ siblings i = Found n k sides siblings₀ siblings i
 
 abbrev μ-loop : tie.MeasureT-loop
 μ-loop n k sides siblings₀ size i₀ siblings i = n - i
+
+-- where the proof comes back to: the turn of the loop, and the entry
+abbrev entry : tie.In-loop Inv-loop μ-loop → tie.Start Inv-loop μ-loop
+entry c = c .before .before .before .before
 
 mul-size : tie.Need-mul-size Inv-loop μ-loop
 mul-size c = omega (arith, c .before .before .pre .0)
@@ -30,7 +36,11 @@ mul-size c = omega (arith, c .before .before .pre .0)
 loop-holds : tie.Need-loop-holds Inv-loop μ-loop
 loop-holds c =
     let s = c .before .before in
-    (omega arith, laid-none _ _ _ (s .args .siblings .now) (s .pre .3), refl)
+    record {
+      fours = omega arith;
+      laid = laid-none _ _ _ (s .args .siblings .now) (s .pre .3);
+      rest = refl;
+    }
 
 -- four trees from tree i on are within the sides and the siblings
 abbrev Room : ℕ → ℕ → ℕ → Type 0
@@ -50,8 +60,8 @@ room c =
     let n = s .args .n in
     let k = s .args .k in
     let trees = s .pre .0 in
-    let sides = four-fit n (c .before .loop .i) (trees .fours) (c .before .loop .inv .0) (c .loop-test .taken) k in
-    let nodes = four-fit n (c .before .loop .i) (trees .fours) (c .before .loop .inv .0) (c .loop-test .taken) (32 * k) in
+    let sides = four-fit n (c .before .loop .i) (trees .fours) (c .before .loop .inv .fours) (c .loop-test .taken) k in
+    let nodes = four-fit n (c .before .loop .i) (trees .fours) (c .before .loop .inv .fours) (c .loop-test .taken) (32 * k) in
     (sides .0, few-trees n k trees, nodes .1, nodes .2, omega (arith, mul-left-comm n 32 k, trees .few), sides .1, sides .2, trees .few)
 
 add-next : tie.Need-add-next Inv-loop μ-loop
@@ -85,20 +95,22 @@ part-four-trees-start-2 : tie.Need-part-four-trees-start-2 Inv-loop μ-loop
 part-four-trees-start-2 c = omega (arith, room (c .before))
 
 part-four-trees-end-2 : tie.Need-part-four-trees-end-2 Inv-loop μ-loop
-part-four-trees-end-2 c = omega (arith, room (c .before), c .before .before .loop .inv .1 .len)
+part-four-trees-end-2 c = omega (arith, room (c .before), c .before .before .loop .inv .laid .len)
 
 four-trees-requires : tie.Need-four-trees-requires Inv-loop μ-loop
-four-trees-requires c κs = let s = c .before .before .before .before .before .before in
+four-trees-requires c κs = let s = entry (c .before .before) in
     let w = c .before .before .before .loop in
     let here = room (c .before .before) in
     let k = s .args .k in
     let size : (w .i + 4) * (32 * k) - w .i * (32 * k) ≡ 4 * (32 * k) = omega (arith, here) in
     let size₂ : (w .i + 4) * k - w .i * k ≡ 4 * k = omega (arith, here) in (
-      s .pre .0 .deep,
-      s .pre .0 .shallow,
-      mid-len (w .i * k) ((w .i + 4) * k) (s .args .sides .now) (omega (arith, here, s .pre .1)) ∙ size₂,
-      part-lt (w .i * k) ((w .i + 4) * k - w .i * k) (s .args .sides .now) 2 (omega arith) (s .pre .2),
-      mid-len (w .i * (32 * k)) ((w .i + 4) * (32 * k)) (w .siblings) (omega (arith, here, w .inv .1 .len)) ∙ size,
+      record {
+        deep = s .pre .0 .deep;
+        shallow = s .pre .0 .shallow;
+        long = mid-len (w .i * k) ((w .i + 4) * k) (s .args .sides .now) (omega (arith, here, s .pre .1)) ∙ size₂;
+        low = part-lt (w .i * k) ((w .i + 4) * k - w .i * k) (s .args .sides .now) 2 (omega arith) (s .pre .2);
+      },
+      mid-len (w .i * (32 * k)) ((w .i + 4) * (32 * k)) (w .siblings) (omega (arith, here, w .inv .laid .len)) ∙ size,
     )
 
 loop-less : tie.Need-loop-less Inv-loop μ-loop
@@ -106,7 +118,7 @@ loop-less c = omega (arith, room (c .before .before .before .before .before))
 
 loop-again : tie.Need-loop-again Inv-loop μ-loop
 loop-again c =
-    let s = c .before .before .before .before .before .before .before .before .before in
+    let s = entry (c .before .before .before .before .before) in
     let w = c .before .before .before .before .before .before .loop in
     let here = room (c .before .before .before .before .before) in
     let k = s .args .k in
@@ -119,19 +131,20 @@ loop-again c =
     let turn : k * 32 ≡ m = omega arith in
     let whole : 4 * m ≡ e - a = omega (arith, here) in
     let size = concat-length (λ j. f (w .i + j)) m 4 (λ j h. found-length _ _ k ∙ turn) ∙ whole in
-    let made = c .before .before .four-trees .ensures ∙ four-found k (w .i) sides totals (w .siblings) (w .inv .2) in (
-      omega (arith, w .inv .0),
-      laid-more (s .args .n) m f (w .i) 4 (w .siblings) _ made (λ j h. found-length _ _ k ∙ turn) (here .0) (w .inv .1),
-      rest-kept a e (w .siblings) _ totals _ made size (omega (arith, here)) (omega (arith, here, w .inv .1 .len)) (w .inv .2),
-    )
+    let made = c .before .before .four-trees .ensures ∙ four-found k (w .i) sides totals (w .siblings) (w .inv .rest) in
+    record {
+      fours = omega (arith, w .inv .fours);
+      laid = laid-more (s .args .n) m f (w .i) 4 (w .siblings) _ made (λ j h. found-length _ _ k ∙ turn) (here .0) (w .inv .laid);
+      rest = rest-kept a e (w .siblings) _ totals _ made size (omega (arith, here)) (omega (arith, here, w .inv .laid .len)) (w .inv .rest);
+    }
 
 same-length : tie.Need-same-length Inv-loop μ-loop
 same-length c =
     let s = c .before .before .before .before in
-    c .before .loop .inv .1 .len ∙ sym (s .pre .3)
+    c .before .loop .inv .laid .len ∙ sym (s .pre .3)
 
 returns : tie.Need-returns Inv-loop μ-loop
-returns c = laid-all _ _ _ _ (c .before .loop .siblings) (omega arith) (c .before .loop .inv .1)
+returns c = laid-all _ _ _ _ (c .before .loop .siblings) (omega arith) (c .before .loop .inv .laid)
 
 pub all-trees-spec : {M : Type 1} → statement M
 all-trees-spec =

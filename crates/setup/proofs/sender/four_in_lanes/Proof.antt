@@ -9,20 +9,20 @@ use Rattle.setup.proofs.sender.four_in_lanes.Tie as tie
 load-lanes-requires : tie.Need-load-lanes-requires
 load-lanes-requires c κs =
     let s = c .before .before .before .before .before .before in
-    omega (arith, s .pre .0 .4, s .pre .1 .1)
+    omega (arith, s .pre .0 .1, s .pre .1 .s-long)
 
 all-levels-requires : tie.Need-all-levels-requires
 all-levels-requires c κs =
     let s = c .before .before .before .before .before .before .before .before .before .before .before in
-    let long = c .before .before .before .before .load-lanes .kept .0 ∙ s .pre .1 .1 in
-    ((s .pre .0 .0, s .pre .0 .1, s .pre .0 .2, s .pre .0 .3), (s .pre .1 .0, long, s .pre .1 .2))
+    let long = c .before .before .before .before .load-lanes .kept .0 ∙ s .pre .1 .s-long in
+    (s .pre .0 .0, record { t-long = s .pre .1 .t-long; s-long = long; zero = s .pre .1 .zero })
 
 store-lanes-requires : tie.Need-store-lanes-requires
 store-lanes-requires c κs =
     let did = c .before .before .before .before .before .before in
     let had = did .before .before .before .before .before in
     let s = had .before .before .before .before .before .before .before in
-    omega (arith, s .pre .0 .4, s .pre .1 .1, did .all-levels .kept .1 .1 .1 .0 ∙ had .load-lanes .kept .0)
+    omega (arith, s .pre .0 .1, s .pre .1 .s-long, did .all-levels .kept .1 .1 .1 .0 ∙ had .load-lanes .kept .0)
 
 same-length : tie.Need-same-length
 same-length c = search needs
@@ -38,9 +38,9 @@ returns c =
     let did = c .before .before .before .before .before .before .before .before .before in
     let had = did .before .before .before .before .before in
     let s = had .before .before .before .before .before .before .before in
-    let long = did .all-levels .kept .1 .1 .1 .0 ∙ had .load-lanes .kept .0 ∙ s .pre .1 .1 in
+    let long = did .all-levels .kept .1 .1 .1 .0 ∙ had .load-lanes .kept .0 ∙ s .pre .1 .s-long in
     through-lanes (s .args .k) (s .args .sides .now) (s .args .siblings .now) (s .args .s .now) _ (did .all-levels .last .1 .1 .1 .0) _
-    (s .pre .1 .1) long (had .load-lanes .ensures) (did .all-levels .ensures) (c .before .before .store-lanes .ensures)
+    (s .pre .1 .s-long) long (had .load-lanes .ensures) (did .all-levels .ensures) (c .before .before .store-lanes .ensures)
 
 pub four-in-lanes-spec : {M : Type 1} → statement M
 four-in-lanes-spec =

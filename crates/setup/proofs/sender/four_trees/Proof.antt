@@ -10,10 +10,10 @@ use Rattle.setup.proofs.sender.four_trees.Statement.{statement}
 use Rattle.setup.proofs.sender.four_trees.Tie as tie
 
 mul-m : tie.Need-mul-m
-mul-m c = omega (arith, c .before .before .pre .1)
+mul-m c = omega (arith, c .before .before .pre .0 .shallow)
 
 mul-n : tie.Need-mul-n
-mul-n c = omega (arith, c .before .before .pre .1)
+mul-n c = omega (arith, c .before .before .pre .0 .shallow)
 
 sub-four-in-lanes : tie.Need-sub-four-in-lanes
 sub-four-in-lanes c = search needs
@@ -22,7 +22,7 @@ part-t-start : tie.Need-part-t-start
 part-t-start c = search needs
 
 part-t-end : tie.Need-part-t-end
-part-t-end c = omega (arith, c .before .before .before .pre .1)
+part-t-end c = omega (arith, c .before .before .before .pre .0 .shallow)
 
 sub-four-in-lanes-2 : tie.Need-sub-four-in-lanes-2
 sub-four-in-lanes-2 c = search needs
@@ -31,7 +31,7 @@ part-s-start : tie.Need-part-s-start
 part-s-start c = search needs
 
 part-s-end : tie.Need-part-s-end
-part-s-end c = omega (arith, c .before .before .before .before .pre .1)
+part-s-end c = omega (arith, c .before .before .before .before .pre .0 .shallow)
 
 four-in-lanes-requires : tie.Need-four-in-lanes-requires
 four-in-lanes-requires c κs = let s = c .before .before .before .before .before in
@@ -40,11 +40,11 @@ four-in-lanes-requires c κs = let s = c .before .before .before .before .before
     let back : 64 * s .args .k - 0 ≡ 64 * s .args .k = omega arith in
     let back₂ : 32 * s .args .k - 0 ≡ 32 * s .args .k = omega arith in (
       s .pre,
-      (
-        length-take-le (64 * s .args .k - 0) (replicate {A = ℕ} 512 0) (omega (arith, long, s .pre .1)) ∙ back,
-        length-take-le (32 * s .args .k - 0) (replicate {A = ℕ} 256 0) (omega (arith, long₂, s .pre .1)) ∙ back₂,
-        zeros-part 512 (64 * s .args .k - 0),
-      ),
+      record {
+        t-long = length-take-le (64 * s .args .k - 0) (replicate {A = ℕ} 512 0) (omega (arith, long, s .pre .0 .shallow)) ∙ back;
+        s-long = length-take-le (32 * s .args .k - 0) (replicate {A = ℕ} 256 0) (omega (arith, long₂, s .pre .0 .shallow)) ∙ back₂;
+        zero = zeros-part 512 (64 * s .args .k - 0);
+      },
     )
 
 same-length : tie.Need-same-length

@@ -15,13 +15,20 @@ use borrow.Author.Needs.{needs}
 use Rattle.setup.proofs.sender.next_level.Statement.{statement}
 use Rattle.setup.proofs.sender.next_level.Tie as tie
 
+-- where the proof comes back to: the calls before, and the entry
+abbrev entry : tie.After-totals-arg → tie.Start
+entry c = c .before .before .before .before .before .before .before
+
+abbrev at-totals : tie.After-of-four → tie.After-totals
+at-totals c = c .before .before .before .before .before .before
+
 -- what is asked of the numbers
 fits : (s : tie.Start)
     → (s .args .level + 1 < s .args .k)
     × (s .args .k ≤ 8)
     × (length (s .args .t .now) ≡ 64 * s .args .k)
     × (length (s .args .s .now) ≡ 32 * s .args .k)
-fits s = (s .pre .0 .0, s .pre .0 .1, s .pre .1 .0, s .pre .1 .1)
+fits s = (s .pre .0 .0, s .pre .0 .1 .shallow, s .pre .1 .0, s .pre .1 .1)
 
 add-next : tie.Need-add-next
 add-next c = omega (arith, fits (c .before .before .before))
@@ -52,7 +59,7 @@ part-totals-end c = omega (arith, fits (c .before .before .before .before .befor
 
 totals-requires : tie.Need-totals-requires
 totals-requires c κs =
-    let s = c .before .before .before .before .before .before .before in
+    let s = entry c in
     let t = s .args .t .now in
     let a : ℕ = 64 * (s .args .level + 1) in
     let rest : length t - a ≡ 64 * (s .args .k - (s .args .level + 1)) = omega (arith, fits s) in
@@ -60,42 +67,42 @@ totals-requires c κs =
 
 -- t, back from the walk
 added : (c : tie.After-totals)
-    → let s = c .before .before .before .before .before .before .before .before in
+    → let s = entry (c .before) in
     TotalsAdded (s .args .k) (s .args .level) (s .args .t .now) (s .args .s .now) (c .totals .last .1 .1 .0)
 added c =
-    let s = c .before .before .before .before .before .before .before .before in
+    let s = entry (c .before) in
     totals-back (s .args .k) (s .args .level) (s .args .t .now) (s .args .s .now) _ _ (s .pre .0 .0) (s .pre .1 .0) (c .totals .ensures)
     (c .before .before .before .nodes-at .ensures)
 
 mul-first : tie.Need-mul-first
-mul-first c = omega (arith, fits (c .before .before .before .before .before .before .before .before .before .before))
+mul-first c = omega (arith, fits (entry (c .before .before .before)))
 
 add-last : tie.Need-add-last
-add-last c = omega (arith, fits (c .before .before .before .before .before .before .before .before .before .before))
+add-last c = omega (arith, fits (entry (c .before .before .before)))
 
 add-end : tie.Need-add-end
-add-end c = omega (arith, fits (c .before .before .before .before .before .before .before .before .before .before))
+add-end c = omega (arith, fits (entry (c .before .before .before)))
 
 mul-take-off : tie.Need-mul-take-off
-mul-take-off c = omega (arith, fits (c .before .before .before .before .before .before .before .before .before .before))
+mul-take-off c = omega (arith, fits (entry (c .before .before .before)))
 
 sub-take-off : tie.Need-sub-take-off
-sub-take-off c = omega (arith, fits (c .before .before .before .before .before .before .before .before .before .before))
+sub-take-off c = omega (arith, fits (entry (c .before .before .before)))
 
 part-take-off-start : tie.Need-part-take-off-start
-part-take-off-start c = omega (arith, fits (c .before .before .before .before .before .before .before .before .before .before))
+part-take-off-start c = omega (arith, fits (entry (c .before .before .before)))
 
 part-take-off-end : tie.Need-part-take-off-end
-part-take-off-end c = omega (arith, fits (c .before .before .before .before .before .before .before .before .before .before))
+part-take-off-end c = omega (arith, fits (entry (c .before .before .before)))
 
 mul-take-off-2 : tie.Need-mul-take-off-2
-mul-take-off-2 c = omega (arith, fits (c .before .before .before .before .before .before .before .before .before .before .before))
+mul-take-off-2 c = omega (arith, fits (entry (c .before .before .before .before)))
 
 sub-take-off-2 : tie.Need-sub-take-off-2
-sub-take-off-2 c = omega (arith, fits (c .before .before .before .before .before .before .before .before .before .before .before))
+sub-take-off-2 c = omega (arith, fits (entry (c .before .before .before .before)))
 
 part-take-off-start-2 : tie.Need-part-take-off-start-2
-part-take-off-start-2 c = omega (arith, fits (c .before .before .before .before .before .before .before .before .before .before .before .before))
+part-take-off-start-2 c = omega (arith, fits (entry (c .before .before .before .before .before)))
 
 part-take-off-end-2 : tie.Need-part-take-off-end-2
 part-take-off-end-2 c =
@@ -104,48 +111,48 @@ part-take-off-end-2 c =
 
 of-four-requires : tie.Need-of-four-requires
 of-four-requires c κs =
-    let s = c .before .before .before .before .before .before .before .before .before .before .before .before .before in
-    (omega (arith, s .pre .0 .0), s .pre .0 .2)
+    let s = entry (c .before .before .before .before .before .before) in
+    (omega (arith, s .pre .0 .0), s .pre .0 .1 .long)
 
 take-off-requires : tie.Need-take-off-requires
 take-off-requires c κs =
-    let s = c .before .before .before .before .before .before .before .before .before .before .before .before .before .before in
+    let s = entry (at-totals c .before) in
     let k = s .args .k in
     let next : ℕ = s .args .level + 1 in
     let nodes : 32 * next + 32 - 32 * next ≡ 32 = omega arith in
     let totals : 64 * next + 64 - 64 * next ≡ 64 = omega arith in (
       mid-len (32 * next) (32 * next + 32) (s .args .s .now) (omega (arith, fits s)) ∙ nodes,
-      part-length (64 * next) (64 * next + 64 - 64 * next) _ (omega (arith, fits s, added (c .before .before .before .before .before .before) .1)) ∙ totals,
+      part-length (64 * next) (64 * next + 64 - 64 * next) _ (omega (arith, fits s, added (at-totals c) .1)) ∙ totals,
       λ i.
           rw (c .of-four .ensures)
-          (tabulate-lt 4 2 (λ i. getD (s .args .sides .now) (i * k + next) 0) (omega arith) (λ i. s .pre .0 .3 (i * k + next)) i),
+          (tabulate-lt 4 2 (λ i. getD (s .args .sides .now) (i * k + next) 0) (omega arith) (λ i. s .pre .0 .1 .low (i * k + next)) i),
     )
 
 same-length : tie.Need-same-length
-same-length c = added (c .before .before .before .before .before .before .before .before .before) .1
+same-length c = added (at-totals (c .before .before .before)) .1
 
 same-length-2 : tie.Need-same-length-2
 same-length-2 c = search needs
 
 returns : tie.Need-returns
 returns c =
-    let s = c .before .before .before .before .before .before .before .before .before .before .before .before .before .before .before .before .before in
+    let s = entry (at-totals (c .before .before .before) .before) in
     let k = s .args .k in
     let next : ℕ = s .args .level + 1 in
     let a : ℕ = 64 * next in
     let b : ℕ = 32 * next in
-    let t = putMid a (length (s .args .t .now) - a) (s .args .t .now) (c .before .before .before .before .before .before .before .before .before .totals .last .1 .1 .0) in
+    let t = putMid a (length (s .args .t .now) - a) (s .args .t .now) (at-totals (c .before .before .before) .totals .last .1 .1 .0) in
     let sides = c .before .before .before .of-four in
     let side : ℕ → ℕ = λ i. getD (s .args .sides .now) (i * k + next) 0 in
     let long : length (part b (b + 32 - b) (s .args .s .now)) ≡ b + 32 - b = mid-len b (b + 32) (s .args .s .now) (omega (arith, fits s)) in (
-      added (c .before .before .before .before .before .before .before .before .before) .0,
+      added (at-totals (c .before .before .before)) .0,
       part-added b (b + 32) 32 (s .args .s .now) _ _ refl
           (c .before .before .take-off .ensures
           ∙ xorEach-cong (part b (b + 32 - b) (s .args .s .now)) _ (λ i. getD t (a + (32 * side (i % 4) + i)) 0)
           (λ i h.
           ap (λ (x : ℕ). getD (part a (a + 64 - a) t) (32 * x + i) 0)
           (ap (λ (z : List ℕ). getD z (i % 4) 0) (sides .ensures) ∙ tabulate-at 4 side (i % 4) (omega arith))
-          ∙ part-at a (a + 64 - a) t (32 * side (i % 4) + i) (omega (arith, long, s .pre .0 .3 (i % 4 * k + next))))),
+          ∙ part-at a (a + 64 - a) t (32 * side (i % 4) + i) (omega (arith, long, s .pre .0 .1 .low (i % 4 * k + next))))),
     )
 
 pub next-level-spec : {M : Type 1} → statement M
