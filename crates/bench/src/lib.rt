@@ -1,13 +1,13 @@
 // The primitives under names that C can call, for bench/ and tests/.
 ghost use mathlib.Core.Path.{_≡_};
 ghost use Rattle.sha256.specs.Sha.{digestOf};
-ghost use Rattle.sha256.specs.Four.{digests};
+ghost use Rattle.sha256_four.specs.FourDigests.{digests};
 ghost use Rattle.gf64.specs.Field.{foldBytes};
 ghost use Rattle.gf64.specs.Table.{keyTable};
 ghost use Rattle.bench.specs.Folds.{foldsWhere};
 ghost use Prim.Native.Nat.{ℕ};
 ghost use Rattle.chacha20.specs.ChaCha.{blockOf};
-ghost use Rattle.chacha20.specs.FourStates.{blocksOf};
+ghost use Rattle.chacha20_four.specs.FourStates.{blocksOf};
 
 #[no_mangle]
 pub extern "C" fn bench_chacha20_one(
@@ -30,7 +30,7 @@ pub extern "C" fn bench_chacha20_four(
 )
     ensures { λ _. ⌜ now (out .exit) ≡ blocksOf (now (keys .entry)) counter (now (nonce .entry)) ⌝ }
 {
-    *out = chacha20::four::block(keys, counter, nonce);
+    *out = chacha20_four::block(keys, counter, nonce);
 }
 
 #[no_mangle]
@@ -44,7 +44,7 @@ pub extern "C" fn bench_sha256_one(m: &[u8], out: &mut [u8; 32])
 pub extern "C" fn bench_sha256_four(m: &[u8; 128], out: &mut [u8; 128])
     ensures { λ _. ⌜ now (out .exit) ≡ digests (now (m .entry)) ⌝ }
 {
-    *out = sha256::four::digest(*m);
+    *out = sha256_four::digest(*m);
 }
 
 #[no_mangle]

@@ -1,16 +1,13 @@
--- Laws of states and lanes. Assumes nothing.
-use mathlib.Core.Path.{_≡_, refl, sym, ap, ap₂, _∙_}
+-- Laws of states and blocks. Assumes nothing.
+use mathlib.Core.Path.{_≡_, refl, ap, ap₂, _∙_}
 use mathlib.Core.List.{List, [], _∷_}
-use Prim.Native.Nat.{ℕ, zero, suc, _+_, _*_, _/_, _%_, _^_, _<_}
+use Prim.Native.Nat.{ℕ, zero, suc, _+_, _*_, _/_, _%_, _<_}
 use native.Mathlib.Omega.{arith}
 use lib.ListN.{length, getD, length-set}
 use Rattle.words.specs.Bytes.{word32, bytes, bytesOfWords}
-use Rattle.words.specs.Lanes.{readLane, lane}
 use Rattle.words.specs.Word32.{add32}
-use Rattle.words.proofs.Lanes.{lane-at, lane-laned}
-use Rattle.words.proofs.Numbers.{word-back, bytesOfWords-length, bytesOfWords-at}
+use Rattle.words.proofs.Numbers.{bytesOfWords-length, bytesOfWords-at}
 use Rattle.chacha20.specs.ChaCha.{putQuad, quarterAt, columnRound, diagonalRound, doubleRound, doubleRounds, addWords, startOf, blockWords, blockOf}
-use Rattle.chacha20.specs.FourStates.{keyIn, blocksOf}
 
 -- two lists are equal, head by head
 pub cons : {x y : ℕ} {s t : List ℕ} → x ≡ y → s ≡ t → _≡_ {A = List ℕ} (x ∷ s) (y ∷ t)
@@ -44,23 +41,6 @@ addWords-at [] (y ∷ t) e i = absurd (omega arith)
 addWords-at (x ∷ s) [] e i = absurd (omega arith)
 addWords-at (x ∷ s) (y ∷ t) e zero = refl
 addWords-at (x ∷ s) (y ∷ t) e (suc i) = addWords-at s t (omega arith) i
-
--- a lane of a sum is the sum of the lanes
-pub lane-add : (l j n : ℕ) (s t : List ℕ) → length s ≡ length t
-    → readLane l j n (addWords s t) ≡ addWords (readLane l j n s) (readLane l j n t)
-unfolding addWords
-lane-add l j zero s t e = refl
-lane-add l j (suc n) s t e = cons (addWords-at s t e (j + l)) (lane-add l (j + 4) n s t e)
-
--- ---- keys in lanes
-
--- word w of the key in lane l
-pub key-word : (keys : List ℕ) (l w x : ℕ) → w < 8 → x ≡ getD keys (4 * w + l) 0 → x < 2 ^ 32 → x ≡ word32 (keyIn l keys) (4 * w)
-unfolding keyIn
-key-word keys l w x h e lt =
-    let p : 0 + 4 * w + l ≡ 4 * w + l = omega arith in
-    let q : getD (lane l 8 keys) w 0 ≡ x = lane-at l 0 8 w keys h ∙ ap (λ (i : ℕ). getD keys i 0) p ∙ sym e in
-    sym (word-back (lane l 8 keys) w (omega arith) ∙ q)
 
 -- ---- the rounds keep a state's length
 
@@ -100,10 +80,3 @@ block-byte key counter nonce x h =
     let ws : List ℕ = blockWords key counter nonce in
     ap (λ (i : ℕ). getD (bytesOfWords ws) i 0) back
     ∙ bytesOfWords-at ws (x / 4) (x % 4) (omega (arith, blockWords-length key counter nonce)) (omega arith)
-
--- each lane of four blocks is the block of its key
-pub blocks-lane : (keys : List ℕ) (counter : ℕ) (nonce : List ℕ) (l : ℕ) → l < 4
-    → lane l 16 (blocksOf keys counter nonce) ≡ blockWords (keyIn l keys) counter nonce
-unfolding blocksOf
-blocks-lane keys counter nonce l h =
-    lane-laned 16 (λ m. blockWords (keyIn m keys) counter nonce) l h (blockWords-length (keyIn l keys) counter nonce)

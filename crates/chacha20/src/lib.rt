@@ -1,5 +1,4 @@
-// The ChaCha20 block function of RFC 8439: one block, and four side by side.
-pub mod four;
+// The ChaCha20 block function of RFC 8439: one block, and what four side by side (`chacha20_four`) are made of too.
 pub mod one;
 
 ghost use mathlib.Core.Path.{_≡_};
@@ -16,7 +15,7 @@ pub struct Quad {
 }
 
 // The quarter round of four words.
-fn quarter(a: u32, b: u32, c: u32, d: u32) -> Quad
+pub fn quarter(a: u32, b: u32, c: u32, d: u32) -> Quad
     ensures { λ r. ⌜ r ≡ quarterRound a b c d ⌝ }
 {
     let a1 = words::add(a, b);
@@ -36,7 +35,7 @@ fn quarter(a: u32, b: u32, c: u32, d: u32) -> Quad
 }
 
 // The word at a place of a nonce.
-fn nonce_word(nonce: &[u8; 12], at: usize) -> u32
+pub fn nonce_word(nonce: &[u8; 12], at: usize) -> u32
     requires { ⌜ at + 3 < 12 ⌝ }
     ensures { λ r. ⌜ r ≡ word32 (now (nonce .entry)) at ⌝ }
 {
@@ -44,7 +43,7 @@ fn nonce_word(nonce: &[u8; 12], at: usize) -> u32
 }
 
 // Adds the words of src to those of dst, modulo 2^32.
-fn add_words(dst: &mut [u32], src: &[u32])
+pub fn add_words(dst: &mut [u32], src: &[u32])
     requires { ⌜ length (now dst) ≡ length (now src) ⌝ }
     ensures { λ _. ⌜ now (dst .exit) ≡ addWords (now (dst .entry)) (now (src .entry)) ⌝ }
 {

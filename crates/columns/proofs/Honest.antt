@@ -114,19 +114,19 @@ delta-bit k delta c h =
 
 -- the siblings of an honest setup, and corrections that with each tree's u give a column: the sender's column is the receiver's ⊕ delta's bit
 -- times the column of its tree
-pub corrected-column : (n k : ℕ) (stream : ℕ → List ℕ → ℕ) (len : ℕ) (siblings delta roots : List ℕ) (correction column : ℕ → List ℕ)
+pub corrected-column : (n k : ℕ) (stream : ℕ → List ℕ → ℕ) (len : ℕ) (siblings delta roots : List ℕ) (corrections column : ℕ → List ℕ)
     → ((i : ℕ) → i < n → treePart k 32 i siblings ≡ concat k (siblingNode k (rootOf roots i) (deltaOf k delta i)))
-    → ((i x : ℕ) → i < n → x < len → uAt k (rootOf roots i) (λ y leaf. stream x leaf) ⊕ getD (correction i) x 0 ≡ getD (column i) x 0)
+    → ((i x : ℕ) → i < n → x < len → uAt k (rootOf roots i) (λ y leaf. stream x leaf) ⊕ getD (corrections i) x 0 ≡ getD (column i) x 0)
     → (c : ℕ) → c < n * k
-    → columnOf len (senderTable n k stream len siblings delta correction) c
+    → columnOf len (senderTable n k stream len siblings delta corrections) c
     ≡ xorList (columnOf len (receiverTable n k stream len roots) c) (scale (bitAt delta c) (column (c / k)))
-corrected-column n k stream len siblings delta roots correction column found meets c h =
+corrected-column n k stream len siblings delta roots corrections column found meets c h =
     let fits = column-tree n k c h in
     let i : ℕ = c / k in
     let d : ℕ = deltaOf k delta i in
-    sender-table n k stream len siblings delta correction c h
-    ∙ ap (λ (s : List ℕ). senderColumn k stream len s d (correction i) (c % k)) (found i (fits .0))
-    ∙ sender-column k stream len (rootOf roots i) d (correction i) (column i) (c % k) (delta-lt k delta i) (λ x lt. meets i x (fits .0) lt)
+    sender-table n k stream len siblings delta corrections c h
+    ∙ ap (λ (s : List ℕ). senderColumn k stream len s d (corrections i) (c % k)) (found i (fits .0))
+    ∙ sender-column k stream len (rootOf roots i) d (corrections i) (column i) (c % k) (delta-lt k delta i) (λ x lt. meets i x (fits .0) lt)
     ∙ ap₂ (λ (v : List ℕ) (p : ℕ). xorList v (scale p (column i)))
     (sym (receiver-table n k stream len roots c h)) (delta-bit k delta c (fits .1))
 

@@ -106,19 +106,19 @@ module _ (n k : ℕ) (stream : ℕ → List ℕ → ℕ) (len : ℕ) (roots : Li
   receiver-table = table-column-at n k len receivers (λ i b. receiverColumn-length k stream len (rootOf roots i) b)
 
 -- the sender's
-module _ (n k : ℕ) (stream : ℕ → List ℕ → ℕ) (len : ℕ) (siblings delta : List ℕ) (correction : ℕ → List ℕ) where
+module _ (n k : ℕ) (stream : ℕ → List ℕ → ℕ) (len : ℕ) (siblings delta : List ℕ) (corrections : ℕ → List ℕ) where
   abbrev senders : ℕ → ℕ → List ℕ
-  senders i = senderColumn k stream len (treePart k 32 i siblings) (deltaOf k delta i) (correction i)
+  senders i = senderColumn k stream len (treePart k 32 i siblings) (deltaOf k delta i) (corrections i)
 
   senders-length : (i b : ℕ) → length (senders i b) ≡ len
-  senders-length i b = senderColumn-length k stream len (treePart k 32 i siblings) (deltaOf k delta i) (correction i) b
+  senders-length i b = senderColumn-length k stream len (treePart k 32 i siblings) (deltaOf k delta i) (corrections i) b
 
-  pub senderTable-length : length (senderTable n k stream len siblings delta correction) ≡ n * k * len
+  pub senderTable-length : length (senderTable n k stream len siblings delta corrections) ≡ n * k * len
   unfolding senderTable
   senderTable-length = tableOf-length n k len senders senders-length
 
   pub sender-table : (c : ℕ) → c < n * k
-      → columnOf len (senderTable n k stream len siblings delta correction) c
-      ≡ senderColumn k stream len (treePart k 32 (c / k) siblings) (deltaOf k delta (c / k)) (correction (c / k)) (c % k)
+      → columnOf len (senderTable n k stream len siblings delta corrections) c
+      ≡ senderColumn k stream len (treePart k 32 (c / k) siblings) (deltaOf k delta (c / k)) (corrections (c / k)) (c % k)
   unfolding senderTable
   sender-table = table-column-at n k len senders senders-length

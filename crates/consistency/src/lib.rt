@@ -90,7 +90,7 @@ pub fn accepts(m: usize, len: usize, key: u64, table: &[u8], delta: &[u8], messa
 {
     let t = gf64::table(key);
     let size = 8 * m;
-    let mut folds = [0u8; 1024];
+    let mut folds = [0u8; 8 * sizes::COLUMNS];
     fold_columns(m, len, &t, table, &mut folds[0..size]);
     all_equal(m, &folds[0..size], delta, message)
 }

@@ -47,9 +47,9 @@ turned s v a t =
 -- ---- n trees of k levels, by any stream, whatever corrections the sender received
 
 -- column i is what u_i and the correction of tree i make together: the choices, and the tree's error where it has one
-module _ (n k : ℕ) (stream : ℕ → List ℕ → ℕ) (len : ℕ) (roots delta : List ℕ) (correction column : ℕ → List ℕ)
+module _ (n k : ℕ) (stream : ℕ → List ℕ → ℕ) (len : ℕ) (roots delta : List ℕ) (corrections column : ℕ → List ℕ)
     (small : (x : ℕ) (leaf : List ℕ) → stream x leaf < 256)
-    (meets : (i x : ℕ) → i < n → x < len → uAt k (rootOf roots i) (λ y leaf. stream x leaf) ⊕ getD (correction i) x 0 ≡ getD (column i) x 0)
+    (meets : (i x : ℕ) → i < n → x < len → uAt k (rootOf roots i) (λ y leaf. stream x leaf) ⊕ getD (corrections i) x 0 ≡ getD (column i) x 0)
     (long : (i : ℕ) → i < n → length (column i) ≡ len) (bytes : (i : ℕ) → i < n → Bytes (column i)) (g c : ℕ) (lt : c < n * k) where
   abbrev tree : ℕ
   tree = c / k
@@ -58,7 +58,7 @@ module _ (n k : ℕ) (stream : ℕ → List ℕ → ℕ) (len : ℕ) (roots delt
   p = bitAt delta c
 
   abbrev table : List ℕ
-  table = senderTable n k stream len (besidePaths n k delta roots) delta correction
+  table = senderTable n k stream len (besidePaths n k delta roots) delta corrections
 
   abbrev own : List ℕ
   own = columnOf len (receiverTable n k stream len roots) c
@@ -75,7 +75,7 @@ module _ (n k : ℕ) (stream : ℕ → List ℕ → ℕ) (len : ℕ) (roots delt
       let vlen : length own ≡ len = ap length is ∙ receiverColumn-length k stream len _ (c % k) in
       let elen : length (scale p (column tree)) ≡ len = scale-length p (column tree) ∙ long tree h in
       let vsmall : Bytes own = λ x. rw (ap (λ (l : List ℕ). getD l x 0) is) (receiverColumn-bytes stream small k len _ (c % k) x) in
-      ap (foldBytes g) (corrected-column n k stream len (besidePaths n k delta roots) delta roots correction column (beside-part n k delta roots) meets c lt)
+      ap (foldBytes g) (corrected-column n k stream len (besidePaths n k delta roots) delta roots corrections column (beside-part n k delta roots) meets c lt)
       ∙ foldBytes-xor g own (scale p (column tree)) (vlen ∙ sym elen) vsmall (scale-bytes p (column tree) bit (bytes tree h))
       ∙ ap (bitXor (foldBytes g own)) (foldBytes-scale g p (column tree) bit)
 

@@ -10,7 +10,7 @@ use borrow.Rule.Slice.PartMut.{putMid}
 use Rattle.words.specs.Bytes.{bytes, part, put, concat}
 use Rattle.words.proofs.Concat.{part-length, place-part, concat-same, concat-length, concat-part, concat-grow}
 use Rattle.sha256.specs.Sha.{digestOf}
-use Rattle.sha256.specs.Four.{digests}
+use Rattle.sha256_four.specs.FourDigests.{digests}
 use Rattle.sha256.proofs.Blocks.{put-next}
 use Rattle.sha256.proofs.Digests.{digest-length}
 use Rattle.pads.specs.Pads.{letters, padInput, padOf}

@@ -1,6 +1,4 @@
-// Rows of a table of columns, and the pads that are their hashes.
-mod rows;
-
+// The pads of the rows of a table: each is a hash of a row value.
 ghost use mathlib.Core.Path.{_≡_};
 ghost use mathlib.Core.List.{_++_};
 ghost use Prim.Native.Nat.{_+_, _*_, _≤_};
@@ -53,7 +51,7 @@ fn four_pads(batch: u64, first: u32, values: &[u8], pads: &mut [u8])
 {
     let mut m = [0u8; 128];
     four_inputs(&mut m, batch, first, values);
-    let digests = sha256::four::digest(m);
+    let digests = sha256_four::digest(m);
     words::copy_part(pads, 0, &digests);
 }
 

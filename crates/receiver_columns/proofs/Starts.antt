@@ -15,7 +15,7 @@ use Rattle.words.proofs.Lists.{tabulate-length, tabulate-at, zeros-at, zeros-su
 use Rattle.words.proofs.Concat.{place-fits, part-at, place-part, concat-same, concat-add, concat-length, concat-part}
 use Rattle.words.proofs.Layouts.{Laid, laid-more}
 use Rattle.words.proofs.LaneBytes.{lane-is}
-use Rattle.chacha20.specs.FourStates.{keyIn}
+use Rattle.chacha20_four.specs.FourStates.{keyIn}
 use Rattle.tree.specs.declared.Stream.{Stream}
 use Rattle.tree.specs.Columns.{uAt, receiverAt}
 use Rattle.tree.specs.WalkWords.{uWord, columnWord}

@@ -14,7 +14,7 @@ pub record StartFits (n k len : ℕ) (roots choices correction table : Range) : 
   pub table-long : length table ≡ n * (k * len)
 
 -- for four of them from tree i on: roots and table are theirs alone
-pub record FourFit (i k len : ℕ) (roots choices correction table : Range) : Type 0 where
+pub record FourStartFits (i k len : ℕ) (roots choices correction table : Range) : Type 0 where
   pub early : i ≤ 128
   pub roots-long : length roots ≡ 128
   pub choices-long : length choices ≡ len

@@ -7,11 +7,10 @@ ghost use lib.ListN.{length, take};
 ghost use Rattle.words.specs.Bytes.{part, put, concat};
 ghost use Rattle.words.specs.Lanes.{laneBytes};
 ghost use Rattle.tree.specs.Layout.{rootOf};
-ghost use Rattle.tree.specs.Sides.{TreesFit};
 ghost use Rattle.tree.specs.Streams.{byteOf};
 ghost use Rattle.columns.specs.Columns.{uOf, choicesOf, receiverColumn, receiverTable, correctionOf};
 ghost use Rattle.columns.specs.Room.{ColumnFits, WorkFits};
-ghost use Rattle.receiver_columns.specs.Lent.{StartFits, FourFit};
+ghost use Rattle.receiver_columns.specs.Lent.{StartFits, FourStartFits};
 
 // Fills u with the sums of the streams of four trees of k levels, side by side, and v with their columns. They are whole blocks long; a
 // column of len bytes is the first len bytes of a lane.
@@ -69,7 +68,7 @@ fn four_trees(
     table: &mut [u8],
 )
     requires { ⌜ WorkFits k len (now u) (now v) ⌝ }
-    requires { ⌜ FourFit i k len (now roots) (now choices) (now correction) (now table) ⌝ }
+    requires { ⌜ FourStartFits i k len (now roots) (now choices) (now correction) (now table) ⌝ }
     ensures { λ _. ⌜ now (choices .exit) ++ now (correction .exit) ≡ put (now (choices .entry) ++ now (correction .entry)) (i * len) (concat 4 (λ l. uOf k (byteOf stream) len (rootOf (now (roots .entry)) l))) ⌝ }
     ensures { λ _. ⌜ now (table .exit) ≡ concat 4 (λ l. concat k (receiverColumn k (byteOf stream) len (rootOf (now (roots .entry)) l))) ⌝ }
 {

@@ -3,7 +3,9 @@ use mathlib.Core.Bool.{Bool, _&&_}
 use mathlib.Core.List.{[], _∷_, _++_}
 use Prim.Native.Nat.{ℕ}
 use lib.Dec.{eqb, leb, ltb}
-use Rattle.sizes.specs.Sizes.{widthAllowed, columnLength, deltaLength, rootsLength, receiverBasePadsLength, senderBasePadsLength, setupMessageLength, siblingsLength, tableLength, correctionLength, checkMessageLength, receiverPadsLength, senderPadsLength}
+use Rattle.sizes.specs.Sizes.{widthAllowed, deltaLength, rootsLength, receiverBasePadsLength, senderBasePadsLength}
+use Rattle.sizes.specs.Sizes.{setupMessageLength, siblingsLength}
+use Rattle.sizes.specs.Sizes.{columnLength, tableLength, correctionLength, checkMessageLength, receiverPadsLength, senderPadsLength}
 use Rattle.answer.specs.declared.Answer.{Answer}
 use Rattle.answer.specs.declared.Answer.the-variants.{Width, Stage, Batch, Blocks, Length, Check}
 use Rattle.answer.specs.Answer.{Order}

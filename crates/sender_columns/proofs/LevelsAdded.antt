@@ -20,7 +20,7 @@ use Rattle.words.proofs.Parts.{xorPart-length, xorPart-before, xorPart-in, xorP
 use Rattle.words.proofs.Concat.{place-fits, part-at}
 use Rattle.words.proofs.Sums.{sumTo-same}
 use Rattle.words.proofs.LaneBytes.{laneBytes-at, lane-is}
-use Rattle.chacha20.specs.FourStates.{keyIn}
+use Rattle.chacha20_four.specs.FourStates.{keyIn}
 use Rattle.tree.specs.declared.Stream.{Stream}
 use Rattle.tree.specs.Tree.{sumBelow}
 use Rattle.tree.specs.Path.{siblingNumber, sideOf}

@@ -25,7 +25,7 @@ pub record TableFits (n k len : ℕ) (correction table : List ℕ) : Type 0 wher
   pub table-long : length table ≡ n * (k * len)
 
 -- of four trees from tree i on, the table is theirs alone
-pub record FourFit (i k len : ℕ) (correction table : List ℕ) : Type 0 where
+pub record FourTableFits (i k len : ℕ) (correction table : List ℕ) : Type 0 where
   pub early : i ≤ 128
   pub correction-long : (i + 3) * len ≤ length correction
   pub table-long : length table ≡ 4 * (k * len)
@@ -39,14 +39,15 @@ SidesAre k sides d = (i : ℕ) → i < 4 → (d i < 2 ^ k) × ((l : ℕ) → l <
 abbrev pub SenderLanes : ℕ → Stream → ℕ → (ℕ → ℕ) → List ℕ → List ℕ → List ℕ → Type 0
 SenderLanes k stream n d s u v =
     (len i b : ℕ) → len % 4 ≡ 0 → len ≤ n → i < 4 → b < k
-    → laneBytes i (len / 4) (part (b * n) len v) ≡ senderColumn k (byteOf stream) len (laneBytes i (8 * k) s) (d i) (laneBytes i (len / 4) u) b
+    → laneBytes i (len / 4) (part (b * n) len v)
+    ≡ senderColumn k (byteOf stream) len (laneBytes i (8 * k) s) (d i) (laneBytes i (len / 4) u) b
 
 -- lane l of u, n bytes of it, has the bytes of s, and 0 where s has ended
 abbrev pub LaneHas : ℕ → ℕ → List ℕ → List ℕ → Type 0
 LaneHas n l s u = (x : ℕ) → x < n → getD (laneBytes l (n / 4) u) x 0 ≡ getD s x 0
 
--- the columns v, n words each, after one more level, where u was before it and u′ is after it: u is added to the level's column where delta has
--- its bit 0, the columns below the siblings are added to all, and u′ to the level's column
+-- the columns v, n words each, after one more level, where u was before it and u′ is after it: u is added to the level's column where
+-- delta has its bit 0, the columns below the siblings are added to all, and u′ to the level's column
 abbrev pub levelAdded : ℕ → Stream → ℕ → ℕ → List ℕ → List ℕ → List ℕ → List ℕ → List ℕ → List ℕ
 levelAdded k stream level n sides s u v u′ =
     let at : ℕ = (k - 1 - level) * n in

@@ -14,7 +14,7 @@ ghost use Rattle.tree.specs.Sides.{sidesOf, Sides, TreesFit};
 ghost use Rattle.tree.specs.Streams.{byteOf, wordOf};
 ghost use Rattle.columns.specs.Columns.{senderColumn, senderTable, treeCorrection};
 ghost use Rattle.columns.specs.Room.{ColumnFits, WorkFits};
-ghost use Rattle.sender_columns.specs.FourTrees.{PathsFit, TableFits, FourFit, SidesAre, SenderLanes, LaneHas, levelAdded};
+ghost use Rattle.sender_columns.specs.FourTrees.{PathsFit, TableFits, FourTableFits, SidesAre, SenderLanes, LaneHas, levelAdded};
 
 // Adds u to v in the lanes whose side is 1.
 fn add_where(v: &mut [u32], u: &[u32], sides: [u8; 4])
@@ -144,7 +144,7 @@ fn four_trees(
     v: &mut [u32],
     table: &mut [u8],
 )
-    requires { ⌜ PathsFit 4 k (now sides) (now siblings) × FourFit i k len (now correction) (now table) ⌝ }
+    requires { ⌜ PathsFit 4 k (now sides) (now siblings) × FourTableFits i k len (now correction) (now table) ⌝ }
     requires { ⌜ (length (now s) ≡ 32 * k) × WorkFits k len (now u) (now v) ⌝ }
     ensures { λ _. ⌜ ((d : ℕ → ℕ) → SidesAre k (now (sides .entry)) d → now (table .exit) ≡ concat 4 (λ j. concat k (senderColumn k (byteOf stream) len (treePart k 32 j (now (siblings .entry))) (d j) (treeCorrection len (now (correction .entry)) (i + j))))) ⌝ }
 {
@@ -254,7 +254,7 @@ pub fn correct(
     ensures { λ _. ⌜ now (table .exit) ≡ senderTable n k (byteOf stream) len (now (siblings .entry)) (now (delta .entry)) (treeCorrection len (now (correction .entry))) ⌝ }
 {
     let transfers = n * k;
-    let mut sides = [0u8; 128];
+    let mut sides = [0u8; sizes::COLUMNS];
     tree::side::all(k, delta, &mut sides[0..transfers]);
     all_columns(
         n,

@@ -11,7 +11,8 @@ use Rattle.pads.specs.Pads.{receiverPads, senderPads}
 use Rattle.answer.specs.declared.Answer.{Answer}
 use Rattle.answer.specs.Answer.{firstOf, whenDone, whenFailed}
 use Rattle.rules.specs.declared.Record.{Record}
-use Rattle.rules.specs.Orders.{newRecord, withBatch, withoutBatch, closed, sessionOrder, startOrder, correctOrder, answerOrder, verifyOrder}
+use Rattle.rules.specs.Orders.{newRecord, withBatch, withoutBatch, closed}
+use Rattle.rules.specs.Orders.{sessionOrder, startOrder, correctOrder, answerOrder, verifyOrder}
 
 -- all that opening a session promises, whatever the record held. 1; the record is then as before
 pub record OpenSession (r : Record) (width : ℕ) (answer : Answer) (r′ : Record) : Type 0 where

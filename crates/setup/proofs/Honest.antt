@@ -16,7 +16,7 @@ use Rattle.words.proofs.Sums.{sumTo-same}
 use Rattle.tree.specs.Tree.{childOf, sumBelow, totalOf}
 use Rattle.tree.specs.Path.{siblingNode, sideOf}
 use Rattle.tree.proofs.Path.{sibling, sibling-length}
-use Rattle.sizes.specs.Sizes.{treesOf}
+use Rattle.sizes.specs.Sizes.{treesOf, receiverBasePadsLength}
 use Rattle.tree.specs.Layout.{rootOf, deltaOf, treePart}
 use Rattle.setup.specs.Setup.{treeMessage, messageOf, unmasked, nextNode, nodesFound, treeSiblings, siblingsOf, senderBasePads, besidePaths}
 
@@ -194,8 +194,8 @@ honest-setup n k delta roots pads long =
     side : ℕ → ℕ → ℕ
     side i = sideOf k (deltaOf k delta i)
 
--- base pads of 8,192 bytes are long enough
-pub pads-enough : (k : ℕ) → treesOf k * (64 * k) ≤ 8192
+-- the receiver's base pads are long enough
+pub pads-enough : (k : ℕ) → treesOf k * (64 * k) ≤ receiverBasePadsLength
 pads-enough k =
     let e : treesOf k * (64 * k) ≡ 64 * (128 / k * k) =
     ap (λ (x : ℕ). 128 / k * x) (mul-comm 64 k) ∙ sym (mul-assoc (128 / k) k 64) ∙ mul-comm (128 / k * k) 64 in

@@ -19,7 +19,7 @@ use Rattle.words.proofs.Parts.{xorPart-length, part-added}
 use Rattle.words.proofs.Concat.{place-fits, part-at, part-length, place-part, concat-same, concat-length, concat-part, concat-at}
 use Rattle.words.proofs.Sums.{sumTo-same}
 use Rattle.words.proofs.LaneBytes.{laneBytes-length, laneBytes-at, lane-added-in, lane-added-before, lane-added-after}
-use Rattle.chacha20.specs.FourStates.{keyIn}
+use Rattle.chacha20_four.specs.FourStates.{keyIn}
 use Rattle.tree.specs.Tree.{childrenOf, childOf, sumBelow}
 use Rattle.tree.specs.WalkWords.{totalWord, totalByte}
 use Rattle.tree.proofs.Sums.{child-byte, sum-same}

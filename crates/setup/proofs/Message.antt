@@ -12,7 +12,7 @@ use Rattle.words.specs.Xor.{_⊕_, xorEach, xorList}
 use Rattle.words.proofs.Lists.{tabulate-at, zeros-part, zeros-sum, cut-length, xorEach-length, xorEach-at, xorList-part}
 use Rattle.words.proofs.Concat.{part-at, place-part, concat-same, concat-length, concat-part, concat-parts}
 use Rattle.words.proofs.LaneBytes.{laneBytes-length, laneBytes-at}
-use Rattle.chacha20.specs.FourStates.{keyIn}
+use Rattle.chacha20_four.specs.FourStates.{keyIn}
 use Rattle.tree.specs.Tree.{childrenOf, childOf, sumBelow, totalOf}
 use Rattle.tree.specs.WalkWords.{totalWord, totalByte}
 use Rattle.tree.proofs.Sums.{child-byte, sum-same}

@@ -163,7 +163,7 @@ pub fn find_siblings(
     ensures { λ _. ⌜ now (siblings .exit) ≡ siblingsOf n k (now (delta .entry)) (now (pads .entry)) (now (message .entry)) ⌝ }
 {
     let transfers = n * k;
-    let mut sides = [0u8; 128];
+    let mut sides = [0u8; sizes::COLUMNS];
     tree::side::all(k, delta, &mut sides[0..transfers]);
     find_by_sides(n, k, &sides[0..transfers], pads, message, siblings);
 }

@@ -17,7 +17,7 @@ treesOf k = columns / k
 
 -- ---- the setups
 
--- the secret D (delta) has a bit for each column: 16
+-- the secret D (delta), a bit for each column: 16
 abbrev pub deltaLength : ℕ
 deltaLength = columns / 8
 

@@ -16,8 +16,8 @@ use Rattle.setup.specs.Setup.{besidePaths}
 use Rattle.columns.specs.Columns.{choicesOf, receiverTable, correctionOf, treeCorrection, senderTable}
 use Rattle.columns.proofs.Tables.{uOf-length, receiverColumn-length, receiver-table}
 use Rattle.columns.proofs.Honest.{honest-table}
-use Rattle.pads.specs.Pads.{rowOf}
-use Rattle.pads.proofs.RowLaws.{row-sum}
+use Rattle.rows.specs.Row.{rowOf}
+use Rattle.rows.proofs.RowLaws.{row-sum}
 
 module _ (n k : ℕ) (stream : ℕ → List ℕ → ℕ) (len : ℕ) (delta roots : List ℕ) where
   -- the receiver's choices and table, and the sender's table where the siblings are those beside delta's paths in the receiver's trees and

@@ -26,7 +26,8 @@ use Rattle.tree.proofs.Streams.{stream-lt}
 use Rattle.setup.specs.Setup.{senderBasePads, besidePaths, ReceiverSetup, SenderSetup}
 use Rattle.columns.specs.Columns.{choicesOf, receiverTable, correctionOf, treeCorrection, senderTable}
 use Rattle.columns.proofs.Tables.{uOf-length, correctionOf-length, receiverTable-length, senderTable-length}
-use Rattle.pads.specs.Pads.{rowOf, padOf, receiverPads, senderPads}
+use Rattle.rows.specs.Row.{rowOf}
+use Rattle.pads.specs.Pads.{padOf, receiverPads, senderPads}
 use Rattle.pads.proofs.Inputs.{pad-length}
 use Rattle.consistency.specs.Message.{checkMessage, accepts}
 use Rattle.consistency.proofs.MessageLaws.{message-length}

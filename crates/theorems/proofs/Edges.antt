@@ -15,7 +15,8 @@ use Rattle.sizes.specs.Sizes.{widthAllowed, columns, columnLength, deltaLength,
 use Rattle.answer.specs.declared.Answer.the-variants.{Width, Stage, Batch, Blocks}
 use Rattle.answer.specs.Answer.{Order, firstOf}
 use Rattle.answer.proofs.Order.{refused-at}
-use Rattle.pads.specs.Pads.{rowOf, padOf, senderPads}
+use Rattle.rows.specs.Row.{rowOf}
+use Rattle.pads.specs.Pads.{padOf, senderPads}
 use Rattle.rules.specs.declared.Record.{Record}
 use Rattle.rules.specs.Orders.{stageReady, stageOpen, blocksAllowed, batchFollows, receiverSetupOrder, senderSetupOrder, sessionOrder, batchOrder, endOrder}
 use Rattle.rules.proofs.Allowed.{batch-follows}

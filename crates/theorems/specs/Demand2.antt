@@ -6,11 +6,13 @@ use lib.ListN.{length}
 use Rattle.words.specs.Bytes.{Range, Bytes, part}
 use Rattle.words.specs.Bits.{bitAt}
 use Rattle.words.specs.Xor.{xorList, scale}
-use Rattle.sizes.specs.Sizes.{widthAllowed, columns, treesOf, columnLength, deltaLength, rootsLength, receiverBasePadsLength, setupMessageLength, siblingsLength, tableLength, correctionLength, checkMessageLength, receiverPadsLength, senderPadsLength}
+use Rattle.sizes.specs.Sizes.{widthAllowed, columns, treesOf}
+use Rattle.sizes.specs.Sizes.{deltaLength, rootsLength, receiverBasePadsLength, setupMessageLength, siblingsLength}
+use Rattle.sizes.specs.Sizes.{columnLength, tableLength, correctionLength, checkMessageLength, receiverPadsLength, senderPadsLength}
 use Rattle.answer.specs.declared.Answer.{Answer}
 use Rattle.answer.specs.declared.Answer.the-variants.{Done}
 use Rattle.setup.specs.Setup.{senderBasePads, ReceiverSetup, SenderSetup}
-use Rattle.pads.specs.Pads.{rowOf}
+use Rattle.rows.specs.Row.{rowOf}
 use Rattle.rules.specs.declared.Record.{Record}
 use Rattle.rules.specs.Orders.{stageReady}
 use Rattle.session.specs.Steps.{ReceiverStart, SenderCorrect, ReceiverAnswer, SenderVerify}

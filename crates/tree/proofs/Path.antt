@@ -63,8 +63,8 @@ sumBeside k root d g m l = sumTo l (λ i. sumBelow (m - 1 - i) (siblingNode k ro
 -- a sum over the nodes of one depth is the sum below the path's node at level l and the sums below the siblings of the levels above
 pub split : (k : ℕ) (root : List ℕ) (d : ℕ) (g : ℕ → List ℕ → ℕ) (m l : ℕ) → l ≤ m
     → sumBelow m root 0 g
-    ≡ bitXor (sumBelow (m - l) (pathNode k root d l) (pathNumber k d l) g)
-    (sumTo l (λ i. sumBelow (m - 1 - i) (siblingNode k root d i) (siblingNumber k d i) g))
+    ≡ sumBelow (m - l) (pathNode k root d l) (pathNumber k d l) g
+    ⊕ sumTo l (λ i. sumBelow (m - 1 - i) (siblingNode k root d i) (siblingNumber k d i) g)
 unfolding pathNode pathNumber sumTo
 split k root d g m zero le =
     let e : m ≡ m - 0 = omega arith in ap (λ (i : ℕ). sumBelow i root 0 g) e ∙ sym (xor-zero-r (sumBelow (m - 0) root 0 g))
@@ -88,8 +88,8 @@ split k root d g m (suc l) le =
 -- down to the path's node itself
 pub split-all : (k : ℕ) (root : List ℕ) (d : ℕ) (g : ℕ → List ℕ → ℕ) (l : ℕ)
     → sumBelow l root 0 g
-    ≡ bitXor (g (pathNumber k d l) (pathNode k root d l))
-    (sumTo l (λ i. sumBelow (l - 1 - i) (siblingNode k root d i) (siblingNumber k d i) g))
+    ≡ g (pathNumber k d l) (pathNode k root d l)
+    ⊕ sumTo l (λ i. sumBelow (l - 1 - i) (siblingNode k root d i) (siblingNumber k d i) g)
 unfolding sumBelow
 split-all k root d g l =
     let e : l - l ≡ 0 = omega arith in
@@ -135,8 +135,8 @@ beside k root d g h =
 
 pub sibling : (k : ℕ) (root : List ℕ) (d l j : ℕ) → j < 32
     → getD (siblingNode k root d l) j 0
-    ≡ bitXor (getD (totalOf root l (1 - pathBit k d l)) j 0)
-    (sumTo l (λ i. sumBelow (l - 1 - i) (siblingNode k root d i) 0 (λ y m. getD (childOf (1 - pathBit k d l) m) j 0)))
+    ≡ getD (totalOf root l (1 - pathBit k d l)) j 0
+    ⊕ sumTo l (λ i. sumBelow (l - 1 - i) (siblingNode k root d i) 0 (λ y m. getD (childOf (1 - pathBit k d l) m) j 0))
 unfolding totalOf
 sibling k root d l j h =
     sym

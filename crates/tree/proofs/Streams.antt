@@ -10,7 +10,7 @@ use Rattle.words.specs.Bits.{bitOf}
 use Rattle.words.proofs.Xor.{bit-lt}
 use Rattle.words.proofs.Numbers.{bytes-scale, bytes-lt}
 use Rattle.chacha20.specs.ChaCha.{blockWords, blockOf}
-use Rattle.chacha20.specs.FourStates.{keyIn}
+use Rattle.chacha20_four.specs.FourStates.{keyIn}
 use Rattle.chacha20.proofs.BlockLaws.{block-byte}
 use Rattle.tree.specs.declared.Stream.{Stream}
 use Rattle.tree.specs.Tree.{sumBelow, streamByte}

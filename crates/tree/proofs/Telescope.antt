@@ -15,7 +15,7 @@ use Rattle.words.proofs.Sums.{zero-bit, power-bit, power-other}
 use Rattle.words.proofs.Lists.{xorEach-length, xorEach-at, xorEach-is, xorEach-cong, xorEach-zero, xorEach-twice}
 use Rattle.words.proofs.Parts.{xorPart-length, xorPart-before, xorPart-in, xorPart-after}
 use Rattle.chacha20.specs.ChaCha.{blockWords}
-use Rattle.chacha20.specs.FourStates.{keyIn, blocksOf}
+use Rattle.chacha20_four.specs.FourStates.{keyIn, blocksOf}
 use Rattle.tree.specs.Tree.{childOf, sumBelow}
 use Rattle.tree.specs.WalkWords.{uWord, columnWord}
 use Rattle.tree.specs.Streams.{blockWord}

@@ -5,7 +5,7 @@ use lib.ListN.{getD}
 use Rattle.words.specs.Bits.{bitOf}
 use Rattle.chacha20.specs.ChaCha.{blockWords}
 use Rattle.tree.specs.Nonce.{nonceOf}
-use Rattle.chacha20.specs.FourStates.{keyIn}
+use Rattle.chacha20_four.specs.FourStates.{keyIn}
 use Rattle.tree.specs.Tree.{sumBelow, childrenOf}
 
 -- word w of the children of a node

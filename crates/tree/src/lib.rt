@@ -44,7 +44,7 @@ pub fn totals(nodes: &[u32; 32], levels: usize, t: &mut [u32])
     ensures { λ _. ⌜ now (t .exit) ≡ xorEach (now (t .entry)) (totalWord (now (nodes .entry))) ⌝ }
 {
     if levels > 0 {
-        let c = chacha20::four::block(nodes, 0, &nonce(0, 0));
+        let c = chacha20_four::block(nodes, 0, &nonce(0, 0));
         words::xor_words(&mut t[0..64], &c);
         totals(&nodes_at(&c, 0), levels - 1, &mut t[64..]);
         totals(&nodes_at(&c, 32), levels - 1, &mut t[64..]);
@@ -59,7 +59,7 @@ fn add_blocks(nonce: &[u8; 12], keys: &[u32; 32], u: &mut [u32])
     let mut counter = 0u32;
     let mut at = 0;
     while at < u.len() {
-        let c = chacha20::four::block(keys, counter, nonce);
+        let c = chacha20_four::block(keys, counter, nonce);
         let end = at + 64;
         words::xor_words(&mut u[at..end], &c);
         counter += 1;
@@ -96,7 +96,7 @@ pub fn walk(stream: Stream, levels: usize, nodes: &[u32; 32], u: &mut [u32], v: 
     if levels == 0 {
         add_stream(stream, nodes, u);
     } else {
-        let c = chacha20::four::block(nodes, 0, &nonce(0, 0));
+        let c = chacha20_four::block(nodes, 0, &nonce(0, 0));
         walk(stream, levels - 1, &nodes_at(&c, 0), u, v);
         add_column(v, levels - 1, u); // what u has so far goes when u is added again
         walk(stream, levels - 1, &nodes_at(&c, 32), u, v);

@@ -45,7 +45,7 @@ fn four_blocks(p: &[u8]) {
     words::load_words(&mut keys, &p[0..128]);
     let mut nonce = [0u8; 12];
     words::copy_part(&mut nonce, 0, &p[132..144]);
-    let t = chacha20::four::block(&keys, words::load32(p, 128), &nonce);
+    let t = chacha20_four::block(&keys, words::load32(p, 128), &nonce);
     let mut out = [0u8; 256];
     words::store_words(&mut out, &t);
     cases::print(&out);
@@ -58,7 +58,7 @@ fn four_digests(p: &[u8]) {
     }
     let mut m = [0u8; 128];
     words::copy_part(&mut m, 0, p);
-    cases::print(&sha256::four::digest(m));
+    cases::print(&sha256_four::digest(m));
 }
 
 // A key and four columns: their folds.

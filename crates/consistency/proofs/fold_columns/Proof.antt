@@ -18,11 +18,11 @@ use Rattle.consistency.proofs.fold_columns.Statement.{statement}
 use Rattle.consistency.proofs.fold_columns.Tie as tie
 
 -- the folds of the columns before i are there
-pub record Folded (m len : ℕ) (t table out : List ℕ) (i : ℕ) : Type 0 where
-  pub fours : i % 4 ≡ 0
-  pub low : i ≤ m
-  pub long : length out ≡ 8 * m
-  pub folds : (g : ℕ) → t ≡ keyTable g → take (i * 8) out ≡ concat i (λ c. bytes 8 (foldBytes g (columnOf len table c)))
+record Folded (m len : ℕ) (t table out : List ℕ) (i : ℕ) : Type 0 where
+  fours : i % 4 ≡ 0
+  low : i ≤ m
+  long : length out ≡ 8 * m
+  folds : (g : ℕ) → t ≡ keyTable g → take (i * 8) out ≡ concat i (λ c. bytes 8 (foldBytes g (columnOf len table c)))
 
 abbrev Inv-loop : tie.InvT-loop
 Inv-loop m len t table out₀ i₀ out i = Folded m len t table out i

@@ -13,10 +13,10 @@ use Rattle.pads.proofs.Inputs.{input-length}
 use Rattle.pads.proofs.four_inputs.Statement.{statement}
 use Rattle.pads.proofs.four_inputs.Tie as tie
 
-pub record Written (batch first : ℕ) (values out : List ℕ) (i : ℕ) : Type 0 where
-  pub low : i ≤ 4
-  pub long : length out ≡ 128
-  pub inputs : take (i * 32) out ≡ concat i (λ j. padInput batch (first + j) (part (j * 16) 16 values))
+record Written (batch first : ℕ) (values out : List ℕ) (i : ℕ) : Type 0 where
+  low : i ≤ 4
+  long : length out ≡ 128
+  inputs : take (i * 32) out ≡ concat i (λ j. padInput batch (first + j) (part (j * 16) 16 values))
 
 abbrev Inv-loop : tie.InvT-loop
 Inv-loop out₀ batch first values i₀ out i = Written batch first values out i

@@ -6,7 +6,7 @@ use borrow.Author.Needs.{needs}
 use Rattle.words.specs.Bytes.{part, put, concat}
 use Rattle.words.proofs.Parts.{put-all}
 use Rattle.words.proofs.Concat.{concat-length}
-use Rattle.sha256.specs.Four.{digests}
+use Rattle.sha256_four.specs.FourDigests.{digests}
 use Rattle.pads.specs.Pads.{padOf}
 use Rattle.pads.proofs.Inputs.{pad-length, four-hashed}
 use Rattle.pads.proofs.four_pads.Statement.{statement}

@@ -12,11 +12,11 @@ use Rattle.receiver_columns.proofs.Starts.{put-none, handed-next}
 use Rattle.receiver_columns.proofs.hand_out_four.Statement.{statement}
 use Rattle.receiver_columns.proofs.hand_out_four.Tie as tie
 
-pub record Handed (i : ℕ) (u choices₀ correction₀ choices correction : List ℕ) (l : ℕ) : Type 0 where
-  pub low : l ≤ 4
-  pub choices-long : length choices ≡ length choices₀
-  pub correction-long : length correction ≡ length correction₀
-  pub laid : choices ++ correction ≡ put (choices₀ ++ correction₀) (i * length u) (concat l (λ l. laneBytes l (length u / 4) u))
+record Handed (i : ℕ) (u choices₀ correction₀ choices correction : List ℕ) (l : ℕ) : Type 0 where
+  low : l ≤ 4
+  choices-long : length choices ≡ length choices₀
+  correction-long : length correction ≡ length correction₀
+  laid : choices ++ correction ≡ put (choices₀ ++ correction₀) (i * length u) (concat l (λ l. laneBytes l (length u / 4) u))
 
 abbrev Inv-loop : tie.InvT-loop
 Inv-loop i u choices₀ correction₀ l₀ choices correction l = Handed i u choices₀ correction₀ choices correction l

@@ -18,14 +18,14 @@ use Rattle.receiver_columns.proofs.trees.Statement.{statement}
 use Rattle.receiver_columns.proofs.trees.Tie as tie
 
 -- the first i trees are stored, and no range has changed its length
-pub record Stored (n k : ℕ) (stream : ℕ → List ℕ → ℕ) (len : ℕ) (roots u₀ v₀ choices₀ correction₀ u v choices correction table : List ℕ) (i : ℕ) : Type 0 where
-  pub fours : i % 4 ≡ 0
-  pub u-long : length u ≡ length u₀
-  pub v-long : length v ≡ length v₀
-  pub choices-long : length choices ≡ length choices₀
-  pub correction-long : length correction ≡ length correction₀
-  pub sums : Laid n len (λ j. uOf k stream len (rootOf roots j)) i (choices ++ correction)
-  pub columns : Laid n (k * len) (λ j. concat k (receiverColumn k stream len (rootOf roots j))) i table
+record Stored (n k : ℕ) (stream : ℕ → List ℕ → ℕ) (len : ℕ) (roots u₀ v₀ choices₀ correction₀ u v choices correction table : List ℕ) (i : ℕ) : Type 0 where
+  fours : i % 4 ≡ 0
+  u-long : length u ≡ length u₀
+  v-long : length v ≡ length v₀
+  choices-long : length choices ≡ length choices₀
+  correction-long : length correction ≡ length correction₀
+  sums : Laid n len (λ j. uOf k stream len (rootOf roots j)) i (choices ++ correction)
+  columns : Laid n (k * len) (λ j. concat k (receiverColumn k stream len (rootOf roots j))) i table
 
 abbrev Inv-loop : tie.InvT-loop
 Inv-loop n k stream len roots u₀ v₀ choices₀ correction₀ table₀ size i₀ u v choices correction table i =

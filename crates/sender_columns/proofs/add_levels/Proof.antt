@@ -18,14 +18,14 @@ use Rattle.sender_columns.proofs.add_levels.Statement.{statement}
 use Rattle.sender_columns.proofs.add_levels.Tie as tie
 
 -- the levels before this one are added, whatever numbers the sides are of, and no range has changed its length
-pub record Done (k : ℕ) (stream : Stream) (sides s u₀ u v : List ℕ) (level : ℕ) : Type 0 where
-  pub low : level ≤ k
-  pub u-long : length u ≡ length u₀
-  pub v-long : length v ≡ k * length u₀
-  pub added : (d : ℕ → ℕ) → SidesAre k sides d → LevelsAdded k stream (length u₀) d s u₀ level u v
+record AddedTo (k : ℕ) (stream : Stream) (sides s u₀ u v : List ℕ) (level : ℕ) : Type 0 where
+  low : level ≤ k
+  u-long : length u ≡ length u₀
+  v-long : length v ≡ k * length u₀
+  added : (d : ℕ → ℕ) → SidesAre k sides d → LevelsAdded k stream (length u₀) d s u₀ level u v
 
 abbrev Inv-loop : tie.InvT-loop
-Inv-loop k stream sides s u₀ v₀ level₀ u v level = Done k stream sides s u₀ u v level
+Inv-loop k stream sides s u₀ v₀ level₀ u v level = AddedTo k stream sides s u₀ u v level
 
 abbrev μ-loop : tie.MeasureT-loop
 μ-loop k stream sides s u₀ v₀ level₀ u v level = k - level

@@ -12,10 +12,10 @@ use Rattle.sender_columns.proofs.add_where.Statement.{statement}
 use Rattle.sender_columns.proofs.add_where.Tie as tie
 use Rattle.words.specs.Xor.{_⊕_}
 
-pub record Masked (v₀ u masks v : List ℕ) (i : ℕ) : Type 0 where
-  pub fours : i % 4 ≡ 0
-  pub low : i ≤ length u
-  pub added : Added v₀ v (masked u masks) i
+record Masked (v₀ u masks v : List ℕ) (i : ℕ) : Type 0 where
+  fours : i % 4 ≡ 0
+  low : i ≤ length u
+  added : Added v₀ v (masked u masks) i
 
 abbrev Inv-loop : tie.InvT-loop
 Inv-loop v₀ u m0 m1 m2 m3 i₀ v i = Masked v₀ u (m0 ∷ m1 ∷ m2 ∷ m3 ∷ []) v i

@@ -27,13 +27,13 @@ treeColumns k len stream siblings delta correction i =
     concat k (senderColumn k stream len (treePart k 32 i siblings) (deltaOf k delta i) (treeCorrection len correction i))
 
 -- the table begins with the columns of the first i trees, whatever delta the sides are of, and no range has changed its length
-pub record Stored (n k : ℕ) (stream : ℕ → List ℕ → ℕ) (len : ℕ) (sides siblings correction : List ℕ) (m : ℕ) (s u v table : List ℕ) (i : ℕ) : Type 0 where
-  pub fours : i % 4 ≡ 0
-  pub s-long : length s ≡ 32 * k
-  pub u-long : length u ≡ m
-  pub v-long : length v ≡ k * m
-  pub table-long : length table ≡ n * (k * len)
-  pub columns : (delta : List ℕ) → sides ≡ sidesOf (n * k) k delta → Laid n (k * len) (treeColumns k len stream siblings delta correction) i table
+record Stored (n k : ℕ) (stream : ℕ → List ℕ → ℕ) (len : ℕ) (sides siblings correction : List ℕ) (m : ℕ) (s u v table : List ℕ) (i : ℕ) : Type 0 where
+  fours : i % 4 ≡ 0
+  s-long : length s ≡ 32 * k
+  u-long : length u ≡ m
+  v-long : length v ≡ k * m
+  table-long : length table ≡ n * (k * len)
+  columns : (delta : List ℕ) → sides ≡ sidesOf (n * k) k delta → Laid n (k * len) (treeColumns k len stream siblings delta correction) i table
 
 abbrev Inv-loop : tie.InvT-loop
 Inv-loop n k stream len sides siblings correction s₀ u₀ v₀ table₀ size wide i₀ s u v table i =

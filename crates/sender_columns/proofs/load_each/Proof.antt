@@ -13,11 +13,11 @@ use Rattle.sender_columns.proofs.Groups.{zero-lanes, lanes-loaded}
 use Rattle.sender_columns.proofs.load_each.Statement.{statement}
 use Rattle.sender_columns.proofs.load_each.Tie as tie
 
-pub record Loaded (i : ℕ) (correction u₀ u : List ℕ) (l : ℕ) : Type 0 where
-  pub low : l ≤ 4
-  pub long : length u ≡ length u₀
-  pub done : (j : ℕ) → j < l → LaneHas (length u₀) j (treeCorrection (length u₀) correction (i + j)) u
-  pub zero : (j : ℕ) → j < 4 → l ≤ j → LaneHas (length u₀) j [] u
+record Loaded (i : ℕ) (correction u₀ u : List ℕ) (l : ℕ) : Type 0 where
+  low : l ≤ 4
+  long : length u ≡ length u₀
+  done : (j : ℕ) → j < l → LaneHas (length u₀) j (treeCorrection (length u₀) correction (i + j)) u
+  zero : (j : ℕ) → j < 4 → l ≤ j → LaneHas (length u₀) j [] u
 
 abbrev Inv-loop : tie.InvT-loop
 Inv-loop i correction u₀ l₀ u l = Loaded i correction u₀ u l

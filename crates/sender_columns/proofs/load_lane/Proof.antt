@@ -13,12 +13,12 @@ use Rattle.words.proofs.LaneBytes.{laneBytes-length, laneBytes-at, lane-is, wor
 use Rattle.sender_columns.proofs.load_lane.Statement.{statement}
 use Rattle.sender_columns.proofs.load_lane.Tie as tie
 
-pub record Loaded (t₀ : List ℕ) (l : ℕ) (s : List ℕ) (n : ℕ) (t : List ℕ) (i : ℕ) : Type 0 where
-  pub fours : i % 4 ≡ 0
-  pub low : i ≤ n
-  pub long : length t ≡ length t₀
-  pub lane : (j : ℕ) → j % 4 ≡ l → j < i → getD t j 0 ≡ word32 s (j - l)
-  pub others : (j : ℕ) → (j % 4 ≡ l → ⊥) → getD t j 0 ≡ getD t₀ j 0
+record Loaded (t₀ : List ℕ) (l : ℕ) (s : List ℕ) (n : ℕ) (t : List ℕ) (i : ℕ) : Type 0 where
+  fours : i % 4 ≡ 0
+  low : i ≤ n
+  long : length t ≡ length t₀
+  lane : (j : ℕ) → j % 4 ≡ l → j < i → getD t j 0 ≡ word32 s (j - l)
+  others : (j : ℕ) → (j % 4 ≡ l → ⊥) → getD t j 0 ≡ getD t₀ j 0
 
 abbrev Inv-loop : tie.InvT-loop
 Inv-loop t₀ l s n i₀ t i = Loaded t₀ l s n t i

@@ -3,12 +3,12 @@ use mathlib.Core.Path.{_≡_, refl, sym, ap, _∙_}
 use mathlib.Core.Bool.{true, false}
 use denote.Ref.{now}
 use mathlib.Core.List.{List}
-use Prim.Native.Nat.{ℕ, _*_, _≤_}
+use Prim.Native.Nat.{ℕ, _*_}
 use lib.ListN.{length}
 use borrow.Author.Needs.{needs}
 use Rattle.answer.specs.Answer.{isDone}
 use Rattle.answer.proofs.Order.{new-when, old-when}
-use Rattle.sizes.specs.Sizes.{columns, columnLength, tableLength, checkMessageLength, receiverPadsLength}
+use Rattle.sizes.specs.Sizes.{columns, columnLength}
 use Rattle.consistency.specs.Message.{checkMessage}
 use Rattle.pads.specs.Pads.{receiverPads}
 use Rattle.rules.specs.Orders.{withoutBatch}

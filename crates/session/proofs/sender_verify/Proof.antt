@@ -4,14 +4,14 @@ use mathlib.Core.Path.{_≡_, refl, sym, ap, _∙_}
 use mathlib.Core.Bool.{Bool, true, false, cond}
 use denote.Ref.{now}
 use mathlib.Core.List.{[], _∷_}
-use Prim.Native.Nat.{ℕ, _*_, _≤_}
+use Prim.Native.Nat.{ℕ, _*_}
 use native.Mathlib.Omega.{arith}
 use lib.ListN.{length}
 use borrow.Author.Needs.{needs}
 use Rattle.answer.specs.declared.Answer.the-variants.{Done, Check}
 use Rattle.answer.specs.Answer.{isDone, Order, whenFailed}
 use Rattle.answer.proofs.Order.{new-when, old-when, AllHold, all-hold, done-when, last-decides, first-refused, not-failed}
-use Rattle.sizes.specs.Sizes.{columns, columnLength, deltaLength, tableLength, checkMessageLength, senderPadsLength}
+use Rattle.sizes.specs.Sizes.{columns, columnLength}
 use Rattle.consistency.specs.Message.{accepts}
 use Rattle.pads.specs.Pads.{senderPads}
 use Rattle.rules.specs.Orders.{withoutBatch, closed, beforeCheck}

@@ -8,7 +8,7 @@ use borrow.Author.Needs.{needs}
 use borrow.Rule.Slice.PartMut.{putMid}
 use Rattle.words.proofs.Lists.{xorEach-none}
 use Rattle.words.proofs.Parts.{part-added, xorPart-length}
-use Rattle.chacha20.specs.FourStates.{blocksOf}
+use Rattle.chacha20_four.specs.FourStates.{blocksOf}
 use Rattle.tree.specs.Nonce.{nonceOf}
 use Rattle.tree.proofs.WalkWords.{child-in, totals-added}
 use borrow.Fn.Kinds.{In}
@@ -16,7 +16,7 @@ use borrow.Fn.PlainCycle.{Measures, is, falls, and}
 use Rattle.tree.proofs.totals.Reads as totals
 use Rattle.tree.proofs.totals.Kinds as totals-kinds
 use Rattle.tree.proofs.+totals.Lts-totals as totals-lts
-use Rattle.chacha20.proofs.four.block.Reads as block-reads
+use Rattle.chacha20_four.proofs.block.Reads as block-reads
 use Rattle.tree.proofs.nonce.Reads as nonce-reads
 use Rattle.tree.proofs.nodes_at.Reads as nodes-at-reads
 use Rattle.words.proofs.xor_words.Reads as xor-words-reads

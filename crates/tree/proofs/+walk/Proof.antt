@@ -5,7 +5,7 @@ use Prim.Native.Nat.{ℕ, _<_}
 use native.Mathlib.Omega.{arith}
 use lib.ListN.{length}
 use borrow.Author.Needs.{needs}
-use Rattle.chacha20.specs.FourStates.{blocksOf}
+use Rattle.chacha20_four.specs.FourStates.{blocksOf}
 use Rattle.tree.specs.Nonce.{nonceOf}
 use Rattle.tree.specs.Streams.{wordOf}
 use Rattle.tree.proofs.WalkWords.{child-in}
@@ -15,7 +15,7 @@ use borrow.Fn.PlainCycle.{Measures, is, falls, and}
 use Rattle.tree.proofs.walk.Reads as walk
 use Rattle.tree.proofs.walk.Kinds as walk-kinds
 use Rattle.tree.proofs.+walk.Lts-walk as walk-lts
-use Rattle.chacha20.proofs.four.block.Reads as block-reads
+use Rattle.chacha20_four.proofs.block.Reads as block-reads
 use Rattle.tree.proofs.nonce.Reads as nonce-reads
 use Rattle.tree.proofs.add_column.Reads as add-column-reads
 use Rattle.tree.proofs.add_stream.Reads as add-stream-reads

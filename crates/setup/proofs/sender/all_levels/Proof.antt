@@ -9,14 +9,14 @@ use Rattle.setup.proofs.Levels.{LevelsFound, found-none, found-more, fo
 use Rattle.setup.proofs.sender.all_levels.Statement.{statement}
 use Rattle.setup.proofs.sender.all_levels.Tie as tie
 
-pub record Done (k : ℕ) (sides s₀ t s : List ℕ) (level : ℕ) : Type 0 where
-  pub low : level < k
-  pub t-long : length t ≡ 64 * k
-  pub s-long : length s ≡ 32 * k
-  pub found : (i : ℕ) → i < 4 → LevelsFound k (λ l. getD sides (i * k + l) 0) (laneBytes i (8 * k) s₀) i level s t
+record FoundTo (k : ℕ) (sides s₀ t s : List ℕ) (level : ℕ) : Type 0 where
+  low : level < k
+  t-long : length t ≡ 64 * k
+  s-long : length s ≡ 32 * k
+  found : (i : ℕ) → i < 4 → LevelsFound k (λ l. getD sides (i * k + l) 0) (laneBytes i (8 * k) s₀) i level s t
 
 abbrev Inv-loop : tie.InvT-loop
-Inv-loop k sides t₀ s₀ level₀ t s level = Done k sides s₀ t s level
+Inv-loop k sides t₀ s₀ level₀ t s level = FoundTo k sides s₀ t s level
 
 abbrev μ-loop : tie.MeasureT-loop
 μ-loop k sides t₀ s₀ level₀ t s level = k - level

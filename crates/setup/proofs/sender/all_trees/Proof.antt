@@ -15,10 +15,10 @@ use Rattle.setup.proofs.Levels.{found-length, four-found}
 use Rattle.setup.proofs.sender.all_trees.Statement.{statement}
 use Rattle.setup.proofs.sender.all_trees.Tie as tie
 
-pub record Found (n k : ℕ) (sides siblings₀ siblings : List ℕ) (i : ℕ) : Type 0 where
-  pub fours : i % 4 ≡ 0
-  pub laid : Laid n (32 * k) (λ j. nodesFound (λ l. getD sides (j * k + l) 0) (treePart k 32 j siblings₀) k) i siblings
-  pub rest : drop (i * (32 * k)) siblings ≡ drop (i * (32 * k)) siblings₀
+record Found (n k : ℕ) (sides siblings₀ siblings : List ℕ) (i : ℕ) : Type 0 where
+  fours : i % 4 ≡ 0
+  laid : Laid n (32 * k) (λ j. nodesFound (λ l. getD sides (j * k + l) 0) (treePart k 32 j siblings₀) k) i siblings
+  rest : drop (i * (32 * k)) siblings ≡ drop (i * (32 * k)) siblings₀
 
 abbrev Inv-loop : tie.InvT-loop
 Inv-loop n k sides siblings₀ size i₀ siblings i = Found n k sides siblings₀ siblings i

@@ -14,10 +14,10 @@ use Rattle.setup.proofs.Levels.{levelOf, level-parts}
 use Rattle.setup.proofs.sender.unmask_all.Statement.{statement}
 use Rattle.setup.proofs.sender.unmask_all.Tie as tie
 
-pub record Unmasked (sides pads message siblings : List ℕ) (c : ℕ) : Type 0 where
-  pub low : c ≤ length sides
-  pub long : length siblings ≡ 32 * length sides
-  pub done : take (32 * c) siblings ≡ concat c (levelOf (λ i. getD sides i 0) message pads)
+record Unmasked (sides pads message siblings : List ℕ) (c : ℕ) : Type 0 where
+  low : c ≤ length sides
+  long : length siblings ≡ 32 * length sides
+  done : take (32 * c) siblings ≡ concat c (levelOf (λ i. getD sides i 0) message pads)
 
 abbrev Inv-loop : tie.InvT-loop
 Inv-loop sides pads message siblings₀ c₀ siblings c = Unmasked sides pads message siblings c

@@ -12,11 +12,11 @@ use Rattle.tree.proofs.side.all.Statement.{statement}
 use Rattle.tree.proofs.side.all.Tie as tie
 
 -- the sides before c are there
-pub record SidesBegun (k : ℕ) (delta out₀ out : List ℕ) (c level : ℕ) : Type 0 where
-  pub low : c ≤ length out₀
-  pub level-is : level ≡ c % k
-  pub long : length out ≡ length out₀
-  pub begun : Begun c (sidesOf (length out₀) k delta) out
+record SidesBegun (k : ℕ) (delta out₀ out : List ℕ) (c level : ℕ) : Type 0 where
+  low : c ≤ length out₀
+  level-is : level ≡ c % k
+  long : length out ≡ length out₀
+  begun : Begun c (sidesOf (length out₀) k delta) out
 
 abbrev Inv-loop : tie.InvT-loop
 Inv-loop k delta out₀ c₀ level₀ out c level = SidesBegun k delta out₀ out c level
