@@ -44,6 +44,13 @@ module _ (n k : ℕ) (stream : ℕ → List ℕ → ℕ) (len : ℕ) (roots : Li
   unfolding correctionOf treeCorrection
   correction-part i h = concat-part (nextCorrection k stream len roots) len (n - 1) (λ i h. next-length i) i (omega arith)
 
+-- a tree that is not the first has m elements before it
+pub not-first : (i : ℕ) → (i ≡ 0 → ⊥) → 0 < i
+not-first i ne = omega arith
+
+pub one-fits : (i m : ℕ) → 0 < i → m ≤ i * m
+one-fits i m pos = omega (arith, mul-le-mul-right m pos)
+
 -- at most 8 columns of at most 128 elements
 pub columns-fit : (k m : ℕ) → k ≤ 8 → m ≤ 128 → k * m ≤ 1024
 columns-fit k m hk hm = omega (arith, mul-le-mul-right m hk)

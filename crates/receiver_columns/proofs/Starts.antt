@@ -23,6 +23,7 @@ use Rattle.tree.specs.Streams.{byteOf, wordOf}
 use Rattle.tree.specs.Layout.{rootOf}
 use Rattle.tree.proofs.Streams.{u-lane, column-lane}
 use Rattle.columns.specs.Columns.{uOf, receiverColumn}
+use Rattle.columns.proofs.Tables.{not-first, one-fits}
 
 -- a range that was cleared
 zero-at : (n : ℕ) (zs : List ℕ) → zs ≡ replicate n 0 → (i : ℕ) → getD zs i 0 ≡ 0
@@ -139,17 +140,12 @@ handed-first choices correction s i m e long =
     ap (λ (r : List ℕ). s ++ r) (sym (drop-append-seam choices correction) ∙ ap (λ (n : ℕ). drop n (choices ++ correction)) end)
     ∙ ap (λ (n : ℕ). take n (choices ++ correction) ++ (s ++ drop (n + length s) (choices ++ correction))) none
 
-pub one-fits : (i m : ℕ) → (i ≡ 0 → ⊥) → m ≤ i * m
-one-fits i m ne =
-    let some : 1 ≤ i = omega arith in
-    omega (arith, mul-le-mul-right m some)
-
 -- and that of any other into the correction
 pub handed-later : (choices correction s : List ℕ) (i m : ℕ) → (i ≡ 0 → ⊥) → length choices ≡ m → length s ≡ m
     → choices ++ putMid (i * m - m) (i * m - (i * m - m)) correction s ≡ put (choices ++ correction) (i * m) s
 unfolding put
 handed-later choices correction s i m ne long size =
-    let one = one-fits i m ne in
+    let one = one-fits i m (not-first i ne) in
     let at : length choices + (i * m - m) ≡ i * m = omega (arith, long) in
     let end : (i * m - m) + (i * m - (i * m - m)) ≡ i * m = omega arith in
     let after : length choices + i * m ≡ i * m + length s = omega (arith, long, size) in

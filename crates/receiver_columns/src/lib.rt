@@ -10,7 +10,7 @@ ghost use Rattle.tree.specs.Layout.{rootOf};
 ghost use Rattle.tree.specs.Streams.{byteOf};
 ghost use Rattle.columns.specs.Columns.{uOf, choicesOf, receiverColumn, receiverTable, correctionOf};
 ghost use Rattle.columns.specs.Room.{ColumnFits, WorkFits};
-ghost use Rattle.receiver_columns.specs.Lent.{StartFits, FourStartFits};
+ghost use Rattle.receiver_columns.specs.StartFits.{StartFits, FourStartFits};
 
 // Fills u with the sums of the streams of four trees of k levels, side by side, and v with their columns. They are whole blocks long; a
 // column of len bytes is the first len bytes of a lane.

@@ -4,7 +4,7 @@ use mathlib.Core.List.{List, [], _++_}
 use Prim.Native.Nat.{ℕ, zero, suc, _+_, _-_, _*_, _/_, _%_, _≤_, _<_}
 use native.Mathlib.Omega.{arith}
 use lib.ListN.{length, getD, List·getD-append}
-use native.Mathlib.Nat.{zero-lt-suc, suc-mul, add-mul, mul-le-mul-right}
+use native.Mathlib.Nat.{zero-lt-suc, suc-mul, add-mul}
 use native.Mathlib.Decide.{ℕ-discrete}
 use lib.Arith.{digits-div, digits-mod}
 use Rattle.words.specs.Bytes.{part, bytes}
@@ -40,9 +40,6 @@ same-correction k stream len siblings d c c′ b same =
 
 -- ---- the corrections of four trees
 
-pub one-fits : (i m : ℕ) → 0 < i → m ≤ i * m
-one-fits i m pos = omega (arith, mul-le-mul-right m pos)
-
 -- tree 0 has none
 pub none-there : (len : ℕ) (correction : List ℕ) (i : ℕ) → (0 < i → ⊥) → treeCorrection len correction i ≡ []
 unfolding treeCorrection
@@ -67,10 +64,10 @@ zero-lanes n l u four zeros x lt =
     ∙ bytes-zero 4 (x % 4)
 
 -- one tree more
-pub lanes-loaded : (n c : ℕ) (f : ℕ → List ℕ) (u u′ : List ℕ) → c < 4
+pub one-lane-more : (n c : ℕ) (f : ℕ → List ℕ) (u u′ : List ℕ) → c < 4
     → ((m : ℕ) → m < 4 → (m ≡ c → ⊥) → laneBytes m (n / 4) u′ ≡ laneBytes m (n / 4) u)
     → LaneHas n c (f c) u′ → ((l : ℕ) → l < c → LaneHas n l (f l) u) → (l : ℕ) → l < c + 1 → LaneHas n l (f l) u′
-lanes-loaded n c f u u′ low kept new had l lt = here (ℕ-discrete l c)
+one-lane-more n c f u u′ low kept new had l lt = here (ℕ-discrete l c)
   where
     here : Dec (l ≡ c) → LaneHas n l (f l) u′
     here (yes e) = rw e new

@@ -31,24 +31,24 @@ pub record FourTableFits (i k len : ℕ) (correction table : List ℕ) : Type 0 
   pub table-long : length table ≡ 4 * (k * len)
 
 -- sides has, for four trees of k levels, the sides of the numbers d
-abbrev pub SidesAre : ℕ → List ℕ → (ℕ → ℕ) → Type 0
+abbrev pub SidesAre : (k : ℕ) (sides : List ℕ) (d : ℕ → ℕ) → Type 0
 SidesAre k sides d = (i : ℕ) → i < 4 → (d i < 2 ^ k) × ((l : ℕ) → l < k → getD sides (i * k + l) 0 ≡ sideOf k (d i) l)
 
 -- v has the sender's columns of four trees side by side, n words a column: cut to len bytes, column b in lane i is that of the tree whose
 -- siblings are in lane i of s, whose number is d i and whose correction is in lane i of u
-abbrev pub SenderLanes : ℕ → Stream → ℕ → (ℕ → ℕ) → List ℕ → List ℕ → List ℕ → Type 0
+abbrev pub SenderLanes : (k : ℕ) (stream : Stream) (n : ℕ) (d : ℕ → ℕ) (s u v : List ℕ) → Type 0
 SenderLanes k stream n d s u v =
     (len i b : ℕ) → len % 4 ≡ 0 → len ≤ n → i < 4 → b < k
     → laneBytes i (len / 4) (part (b * n) len v)
     ≡ senderColumn k (byteOf stream) len (laneBytes i (8 * k) s) (d i) (laneBytes i (len / 4) u) b
 
 -- lane l of u, n bytes of it, has the bytes of s, and 0 where s has ended
-abbrev pub LaneHas : ℕ → ℕ → List ℕ → List ℕ → Type 0
+abbrev pub LaneHas : (n l : ℕ) (s u : List ℕ) → Type 0
 LaneHas n l s u = (x : ℕ) → x < n → getD (laneBytes l (n / 4) u) x 0 ≡ getD s x 0
 
 -- the columns v, n words each, after one more level, where u was before it and u′ is after it: u is added to the level's column where
 -- delta has its bit 0, the columns below the siblings are added to all, and u′ to the level's column
-abbrev pub levelAdded : ℕ → Stream → ℕ → ℕ → List ℕ → List ℕ → List ℕ → List ℕ → List ℕ → List ℕ
+abbrev pub levelAdded : (k : ℕ) (stream : Stream) (level n : ℕ) (sides s u v u′ : List ℕ) → List ℕ
 levelAdded k stream level n sides s u v u′ =
     let at : ℕ = (k - 1 - level) * n in
     xorPart

@@ -7,7 +7,8 @@ use lib.ListN.{length}
 use borrow.Rule.Slice.PartMut.{putMid, mid-len}
 use Rattle.words.specs.Lanes.{laneBytes}
 use Rattle.words.proofs.LaneBytes.{laneBytes-length}
-use Rattle.receiver_columns.proofs.Starts.{handed-first, handed-later, one-fits}
+use Rattle.columns.proofs.Tables.{not-first, one-fits}
+use Rattle.receiver_columns.proofs.Starts.{handed-first, handed-later}
 use Rattle.receiver_columns.proofs.hand_out.Statement.{statement}
 use Rattle.receiver_columns.proofs.hand_out.Tie as tie
 
@@ -18,7 +19,7 @@ mul-end : tie.Need-mul-end
 mul-end c = omega arith
 
 sub-at : tie.Need-sub-at
-sub-at c = omega (arith, one-fits (c .before .before .before .before .args .i) (length (c .before .before .before .before .args .u .now)) (c .if1 .left))
+sub-at c = omega (arith, one-fits (c .before .before .before .before .args .i) (length (c .before .before .before .before .args .u .now)) (not-first _ (c .if1 .left)))
 
 sub-store-lane : tie.Need-sub-store-lane
 sub-store-lane c = omega arith
@@ -34,7 +35,7 @@ store-lane-requires-2 c κs =
     let s = c .before .before .before .before .before in
     let m : ℕ = length (s .args .u .now) in
     let i = s .args .i in
-    let low = one-fits i m (c .before .if1 .left) in
+    let low = one-fits i m (not-first i (c .before .if1 .left)) in
     let size = mid-len (i * m - m) (i * m) (s .args .correction .now) (omega (arith, s .pre .3)) in
     omega (arith, s .pre, low, size)
 
@@ -61,7 +62,7 @@ returns-2 c =
     let m : ℕ = length u in
     let i = s .args .i in
     let lane : List ℕ = laneBytes (s .args .l) (m / 4) u in
-    let low = one-fits i m (c .before .before .before .before .if1 .left) in
+    let low = one-fits i m (not-first i (c .before .before .before .before .if1 .left)) in
     let size = mid-len (i * m - m) (i * m) (s .args .correction .now) (omega (arith, s .pre .3)) in
     let whole : i * m - (i * m - m) ≡ m = omega (arith, low) in
     ap (λ (y : List ℕ). s .args .choices .now ++ putMid (i * m - m) (i * m - (i * m - m)) (s .args .correction .now) y)

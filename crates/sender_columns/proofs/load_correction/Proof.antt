@@ -6,7 +6,8 @@ use native.Mathlib.Omega.{arith}
 use denote.Ref.{now}
 use lib.ListN.{length, getD}
 use Rattle.words.proofs.Concat.{part-length}
-use Rattle.sender_columns.proofs.Groups.{one-fits, none-there, own-part}
+use Rattle.columns.proofs.Tables.{one-fits}
+use Rattle.sender_columns.proofs.Groups.{none-there, own-part}
 use Rattle.sender_columns.proofs.load_correction.Statement.{statement}
 use Rattle.sender_columns.proofs.load_correction.Tie as tie
 

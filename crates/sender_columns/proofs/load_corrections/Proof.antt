@@ -1,12 +1,13 @@
 -- `sender_columns::load_corrections` meets its contract: those of four later trees stand one after the other. Assumes nothing.
 use mathlib.Core.Path.{_≡_, ap, _∙_}
 use mathlib.Core.List.{List}
-use Prim.Native.Nat.{ℕ, _+_, _-_, _*_, _≤_, _<_}
+use Prim.Native.Nat.{ℕ, _+_, _-_, _*_, _≤_}
 use native.Mathlib.Nat.{add-mul, mul-le-mul-right}
 use native.Mathlib.Omega.{arith}
 use denote.Ref.{now}
 use lib.ListN.{length, getD}
 use Rattle.words.proofs.Concat.{part-length}
+use Rattle.columns.proofs.Tables.{not-first}
 use Rattle.sender_columns.proofs.Groups.{next-part}
 use Rattle.sender_columns.proofs.load_corrections.Statement.{statement}
 use Rattle.sender_columns.proofs.load_corrections.Tie as tie
@@ -14,11 +15,8 @@ use Rattle.sender_columns.proofs.load_corrections.Tie as tie
 load-each-requires : tie.Need-load-each-requires
 load-each-requires c κs = c .before .before .before .before .pre
 
-some : (i : ℕ) → (i ≡ 0 → ⊥) → 0 < i
-some i ne = omega arith
-
 sub-start : tie.Need-sub-start
-sub-start c = some (c .before .before .before .args .i) (c .if1 .left)
+sub-start c = not-first (c .before .before .before .args .i) (c .if1 .left)
 
 mul-start : tie.Need-mul-start
 mul-start c =
@@ -68,7 +66,7 @@ load-lanes-requires c κs =
     let s = c .before .before .before .before .before in
     let m : ℕ = length (now (s .args .u)) in
     let i = s .args .i in
-    let pos = some i (c .before .before .if1 .left) in
+    let pos = not-first i (c .before .before .if1 .left) in
     let a : ℕ = (i - 1) * m in
     let e : ℕ = (i + 3) * m in
     let end : i + 3 ≡ i - 1 + 4 = omega (arith, pos) in
@@ -88,7 +86,7 @@ returns-2 : tie.Need-returns-2
 returns-2 c l lt x h =
     let s = c .before .before .before .before .before .before .before .before in
     let m : ℕ = length (now (s .args .u)) in
-    let pos = some (s .args .i) (c .before .before .before .before .before .if1 .left) in
+    let pos = not-first (s .args .i) (c .before .before .before .before .before .if1 .left) in
     ap (λ (z : List ℕ). getD z x 0) (c .before .before .load-lanes .ensures l lt ∙ next-part m (now (s .args .correction)) (s .args .i) l pos lt)
 
 pub load-corrections-spec : {M : Type 1} → statement M

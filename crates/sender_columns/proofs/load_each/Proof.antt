@@ -9,7 +9,7 @@ use lib.ListN.{length, getD}
 use Rattle.words.specs.Lanes.{laneBytes}
 use Rattle.columns.specs.Columns.{treeCorrection}
 use Rattle.sender_columns.specs.FourTrees.{LaneHas}
-use Rattle.sender_columns.proofs.Groups.{zero-lanes, lanes-loaded}
+use Rattle.sender_columns.proofs.Groups.{zero-lanes, one-lane-more}
 use Rattle.sender_columns.proofs.load_each.Statement.{statement}
 use Rattle.sender_columns.proofs.load_each.Tie as tie
 
@@ -73,7 +73,7 @@ loop-again c =
     record {
       low = omega (arith, taken);
       long = call .load-correction .kept .1 .1 .0 ∙ w .inv .long;
-      done = lanes-loaded m (w .l) (λ j. treeCorrection m correction (i + j)) (w .u) u′ taken kept new (w .inv .done);
+      done = one-lane-more m (w .l) (λ j. treeCorrection m correction (i + j)) (w .u) u′ taken kept new (w .inv .done);
       zero = λ j hj le x h.
           let apart : j ≡ w .l → ⊥ = λ q. omega (arith, q, le) in
           ap (λ (z : List ℕ). getD z x 0) (kept j hj apart) ∙ w .inv .zero j hj (omega (arith, le)) x h;
