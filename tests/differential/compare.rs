@@ -52,7 +52,7 @@ fn library_leaves(number: usize, call: &Call) -> Vec<Lent> {
 }
 
 fn names(call: &Call) -> Vec<&'static str> {
-    [&["answer", "record"], call.step.read(), call.step.written()].concat()
+    [&["answer", "record"][..], call.step.read(), call.step.written()].concat()
 }
 
 impl Comparison {
@@ -96,8 +96,9 @@ impl Comparison {
 
     fn compare(&mut self, call: &Call, part: &'static str, library: &Lent, twin: &Lent) {
         assert_eq!(library.all.len(), twin.all.len());
-        let Some(at) = library.all.iter().zip(&twin.all).position(|(x, y)| x != y) else {
-            return;
+        let at = match library.all.iter().zip(&twin.all).position(|(x, y)| x != y) {
+            Some(at) => at,
+            None => return,
         };
         let byte = at as isize - library.before as isize;
         if self.differences.len() < PRINTED {

@@ -54,10 +54,10 @@ fn play(comparison: &mut Comparison) -> Option<()> {
 }
 
 fn main() {
-    let Some(options) = options() else {
+    let options = options().unwrap_or_else(|| {
         eprintln!("usage: differential [--seed N] [--calls N] [--plant]");
-        exit(2);
-    };
+        exit(2)
+    });
     stored::published();
     stored::setups();
     stored::sessions();

@@ -38,7 +38,7 @@ impl Random {
         match self.below(20) {
             0 => vec![0; length],
             1 => vec![255; length],
-            _ => (0..length.div_ceil(8))
+            _ => (0..(length + 7) / 8)
                 .flat_map(|_| self.number().to_le_bytes())
                 .take(length)
                 .collect(),

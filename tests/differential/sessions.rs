@@ -65,9 +65,7 @@ impl Session<'_> {
 
     fn set_up(&mut self) -> Option<()> {
         let call = self.call(RECEIVER, Step::ReceiverSetup);
-        let [roots, base_pads, _] = call.ranges.as_slice() else {
-            unreachable!()
-        };
+        let (roots, base_pads) = (&call.ranges[0], &call.ranges[1]);
         let width = self.pair.width as usize;
         let delta = self.random().bytes(sizes::delta_length(width));
         let pads = sender_pads(width, &delta, base_pads);

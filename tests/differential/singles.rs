@@ -73,10 +73,9 @@ fn drawn(random: &mut Random, step: Step, record: Record) -> Call {
 
 /// Makes the message of a verify one that is accepted: on any table and delta, whatever its choice fold.
 fn fit(call: &mut Call) {
-    let [table, delta, message, _] = call.ranges.as_mut_slice() else {
-        return;
-    };
-    let folds = batch::accepted_folds(call.record.width as usize, call.key, table, delta, gf64::words(message)[0]);
-    message.truncate(8);
-    message.extend(folds.into_iter().flat_map(u64::to_le_bytes));
+    if let [table, delta, message, _] = call.ranges.as_mut_slice() {
+        let folds = batch::accepted_folds(call.record.width as usize, call.key, table, delta, gf64::words(message)[0]);
+        message.truncate(8);
+        message.extend(folds.into_iter().flat_map(u64::to_le_bytes));
+    }
 }
