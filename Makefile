@@ -6,7 +6,7 @@
 #   make clean
 
 PREFIX ?= /usr/local
-VERSION := $(shell sed -n 's/^.define SOFTSPOKEN_VERSION "\(.*\)"/\1/p' include/softspoken.h)
+VERSION := $(shell awk '/define SOFTSPOKEN_VERSION_(MAJOR|MINOR|PATCH) / { printf "%s%s", dot, $$3; dot = "." }' include/softspoken.h)
 
 .PHONY: all install test clean
 .NOTPARALLEL:

@@ -1,5 +1,7 @@
 /* A pair of firms, both sides in one process: the setup, three batches, and one whose check message is damaged on the
-   way. A real host carries `sent` and the key over its network, and runs base transfers where this one copies. */
+   way. A real host carries `sent`, batch number, blocks and key over its network, and runs base transfers where this
+   one copies. */
+#define _DEFAULT_SOURCE /* getentropy, explicit_bzero */
 #include <softspoken.h>
 #include <stdio.h>
 #include <stdlib.h>
@@ -8,6 +10,7 @@
 
 enum { WIDTH = 8, BLOCKS = 15 };
 #define RANGE(array) (array), sizeof(array)
+#define WIPE(array) explicit_bzero(RANGE(array))
 
 static struct {
     struct softspoken_record record;
@@ -33,16 +36,28 @@ static void draw(void *range, size_t n) {
         if (getentropy((uint8_t *)range + at, n - at < 256 ? n - at : 256) != 0) abort();
 }
 
+/* After a batch, once its pads are used. */
+static void wipe_batch(void) {
+    WIPE(receiver.choices), WIPE(receiver.table), WIPE(receiver.pads);
+    WIPE(sender.table), WIPE(sender.pads);
+}
+
+/* When the setup is given up: each side wipes what it kept of it. */
+static void wipe_setup(void) {
+    WIPE(receiver.roots);
+    WIPE(sender.delta), WIPE(sender.siblings);
+}
+
 /* What a host does on each answer; whether the pair goes on with the batch. */
 static int done(const char *step, uint32_t answer) {
-    if (answer != SOFTSPOKEN_DONE) printf("%s: refused, %u\n", step, (unsigned)answer);
+    if (answer != SOFTSPOKEN_DONE) printf("%s: refused, %s\n", step, softspoken_answer_name(answer));
     switch (answer) {
     case SOFTSPOKEN_DONE: return 1;
     case SOFTSPOKEN_ERR_STAGE: return 0; /* out of turn, or a closed session: drop the message, nothing has changed */
     case SOFTSPOKEN_ERR_BATCH: return 0; /* this number was had: agree on a higher one */
-    case SOFTSPOKEN_ERR_CHECK:           /* a cheat or a damaged message: this setup is spent */
-        explicit_bzero(RANGE(sender.delta));
-        explicit_bzero(RANGE(sender.siblings));
+    case SOFTSPOKEN_ERR_CHECK:           /* tell the receiver; neither side uses this batch or this setup any more */
+        wipe_batch();
+        wipe_setup();
         return 0;
     default: abort(); /* ERR_WIDTH, ERR_BLOCKS, ERR_LENGTH: a fault of this program */
     }
@@ -56,27 +71,31 @@ static int setup(void) {
         unsigned choice = softspoken_base_choice(WIDTH, sender.delta, t);
         memcpy(sender.base_pads + 32 * t, receiver.base_pads + 64 * t + 32 * choice, 32);
     }
-    return done("receiver setup", softspoken_receiver_setup(WIDTH, RANGE(receiver.roots), RANGE(receiver.base_pads),
-                                                            RANGE(sent.setup))) &&
-           done("sender setup", softspoken_sender_setup(WIDTH, RANGE(sender.delta), RANGE(sender.base_pads),
-                                                        RANGE(sent.setup), RANGE(sender.siblings))) &&
-           done("receiver open", softspoken_open(&receiver.record, WIDTH)) &&
+    if (!done("receiver setup", softspoken_receiver_setup(WIDTH, RANGE(receiver.roots), RANGE(receiver.base_pads),
+                                                          RANGE(sent.setup))) ||
+        !done("sender setup", softspoken_sender_setup(WIDTH, RANGE(sender.delta), RANGE(sender.base_pads),
+                                                      RANGE(sent.setup), RANGE(sender.siblings))))
+        return 0;
+    WIPE(receiver.base_pads), WIPE(sender.base_pads);
+    return done("receiver open", softspoken_open(&receiver.record, WIDTH)) &&
            done("sender open", softspoken_open(&sender.record, WIDTH));
 }
 
-/* Each side stores its record before it sends what a step wrote, so that no batch is ever run twice. */
+/* Each side stores its record, and what the batch still needs, before it sends what a step wrote. So no batch is ever
+   run twice. */
 static int batch(uint32_t number, uint8_t damage) {
     uint64_t key;
-    if (!done("start", softspoken_receiver_start(&receiver.record, RANGE(receiver.roots), number, BLOCKS, RANGE(receiver.choices),
-                                                 RANGE(receiver.table), RANGE(sent.correction))) ||
+    if (!done("start", softspoken_receiver_start(&receiver.record, RANGE(receiver.roots), number, BLOCKS,
+                                                 RANGE(receiver.choices), RANGE(receiver.table),
+                                                 RANGE(sent.correction))) ||
         !done("correct", softspoken_sender_correct(&sender.record, RANGE(sender.siblings), RANGE(sender.delta), number,
                                                    BLOCKS, RANGE(sent.correction), RANGE(sender.table))))
         return 0;
     draw(&key, sizeof key); /* the sender's, and only now that the correction has come */
-    if (!done("answer", softspoken_receiver_answer(&receiver.record, key, RANGE(receiver.choices), RANGE(receiver.table),
-                                                   RANGE(sent.check), RANGE(receiver.pads))))
+    if (!done("answer", softspoken_receiver_answer(&receiver.record, key, RANGE(receiver.choices),
+                                                   RANGE(receiver.table), RANGE(sent.check), RANGE(receiver.pads))))
         return 0;
-    sent.check[8] ^= damage;
+    sent.check[8] ^= damage; /* in column 0's fold: refused for every delta */
     return done("verify", softspoken_sender_verify(&sender.record, key, RANGE(sender.table), RANGE(sender.delta),
                                                    RANGE(sent.check), RANGE(sender.pads)));
 }
@@ -86,13 +105,15 @@ int main(void) {
     for (uint32_t number = 1; number <= 3 && right; number++) {
         unsigned agree = 0;
         right = batch(number, 0);
-        for (size_t j = 0; j < SOFTSPOKEN_TRANSFERS(BLOCKS); j++) {
+        for (size_t j = 0; right && j < SOFTSPOKEN_TRANSFERS(BLOCKS); j++) {
             unsigned choice = softspoken_choice(receiver.choices, j);
             agree += memcmp(receiver.pads + 32 * j, sender.pads + 64 * j + 32 * choice, 32) == 0;
         }
         printf("batch %u: %u pads of the receiver are the sender's of its choice\n", (unsigned)number, agree);
         right = right && agree == SOFTSPOKEN_TRANSFERS(BLOCKS);
+        wipe_batch();
     }
-    right = right && !batch(4, 1) && sender.record.stage == SOFTSPOKEN_STAGE_CLOSED && !batch(5, 0);
+    right = right && !batch(4, 1) && sender.record.stage == SOFTSPOKEN_STAGE_CLOSED;
+    right = right && !batch(5, 0); /* a receiver that goes on all the same is refused */
     return right ? EXIT_SUCCESS : EXIT_FAILURE;
 }

@@ -1,7 +1,7 @@
 /* softspoken: oblivious transfer extension (SoftSpokenOT over small fields), proved, for C and C++.
 
-   From 128 base transfers, made once for a pair, two sides draw batches of up to 960 oblivious transfers. The sender ends
-   with two pads of 32 bytes per transfer, the receiver with the one that its choice bit numbers.
+   From 128 base transfers, made once for a pair, two sides draw batches of up to 960 oblivious transfers. The sender
+   ends with two pads of 32 bytes per transfer, the receiver with the one that its choice bit numbers.
 
        receiver                                                  sender
        softspoken_receiver_setup     --- setup message --->      softspoken_sender_setup       once for a pair
@@ -14,32 +14,52 @@
 
    Random bytes, base transfers and carriage between the sides are the host's. Link with -lsoftspoken.
 
-   CALLS. A byte range is a pointer and its length in bytes. The pointer must be valid for that length, and not null even
-   where the length is 0. The record, and a range that the call writes, must not overlap any other range of that call. Of
-   numbers, records, lengths and bytes any are allowed: what a step can't use it refuses. No function allocates, keeps
-   anything between calls or touches global data, so threads may call on records and ranges of their own. Beside what is
-   lent a call takes at most 16 KB of stack, which it doesn't wipe.
+   CALLS. A byte range is a pointer and its length in bytes. The pointer must be valid for that length, and not null
+   even where the length is 0. The record, and a range that the call writes, must not overlap any other range of that
+   call. Of numbers, records, lengths and bytes any are allowed: what a step can't use it refuses. No function
+   allocates, keeps anything between calls or touches global data, so threads may call on records and ranges of their
+   own. Beside what is lent a call takes at most 16 KB of stack, which it doesn't wipe.
 
-   ANSWERS. A call returns SOFTSPOKEN_DONE or a refusal. The conditions of a step are looked at in the order in which its
-   comment lists the refusals, and the first that is met is returned. After a refusal the record and every range are as they
-   were, except that SOFTSPOKEN_ERR_CHECK sets the record's stage to SOFTSPOKEN_STAGE_CLOSED. A call never writes to a range
-   that is marked 'in', and never beyond a range.
+   ANSWERS. A call returns SOFTSPOKEN_DONE or a refusal. The conditions of a step are looked at in the order in which
+   its comment lists the refusals, and the first that is met is returned. After a refusal the record and every range
+   are as they were, except that SOFTSPOKEN_ERR_CHECK sets the record's stage to SOFTSPOKEN_STAGE_CLOSED. A call never
+   writes to a range that is marked 'in', and never beyond a range.
 
-   SECRETS. Each range is marked 'secret' (this side tells it to nobody) or 'sent' (to or from the other side). Records, widths,
-   batch numbers, blocks, lengths, keys and answers are public. No branch and no address depends on a byte of any range, but
-   for one jump in softspoken_sender_verify, on its answer.
+   A FAILED CHECK. After SOFTSPOKEN_ERR_CHECK the sender's record is closed, and neither side goes on with this setup:
+   a failed check tells a cheating receiver something about delta. The sender tells the receiver that the check failed,
+   and nothing else. The receiver's record is ready, and it holds pads of that batch: it must not use them. The receiver
+   wipes its roots, choices, table and pads, the sender its delta, siblings and table. To go on they make a new setup,
+   with new base transfers.
+
+   SECRETS. Each range is marked 'secret' (this side tells it to nobody) or 'sent' (to or from the other side). Records,
+   widths, batch numbers, blocks, lengths, keys and answers are public. No branch and no address depends on a byte of
+   any range, but for one jump in softspoken_sender_verify, on its answer.
+
+   THE LINE. The library carries nothing. Beside the three messages the host carries batch number, blocks and key, which
+   must be the same on both sides. We advise 4 bytes for the batch number, 4 for the blocks and 8 for the key, each
+   little-endian. The host authenticates the line; the check doesn't. It is no test of every byte: half of the setup
+   message is never used, nor is the correction of a tree whose bits of delta are all 0.
+
+   STORE AND WIPE. Store the record after each step that is done, before you send what the step wrote. Store with it
+   what the rest of the batch needs: what the step wrote, and at the sender the key, before it is sent. A record that is
+   set back lets a batch run twice. Wipe the base pads after the setup. Wipe choices and tables after the batch, and
+   pads once they are used. Wipe roots, delta and siblings when you give the setup up.
+
+   A HOST'S TEST of the refusal changes a byte of the check message: message[8 + 8 * c], for a c from 0 to 127. With
+   nothing else changed this is refused for every delta. Don't change the correction for it: one wrong bit in the
+   correction of one tree passes with chance 2^-width, when the tree's bits of delta are all 0 and it isn't used.
 
    VALUES. Below, + of bytes is exclusive or, and numbers are little-endian. A node of a tree is 32 bytes, the key of a
-   ChaCha20 block (RFC 8439) whose nonce is a use number, a batch number and 0, of 4 bytes each. Use 0, batch 0, counter 0
-   gives a node's two children, the left one first. Leaves stand width levels below the root, numbered from 0 at the left. A
-   leaf's stream is its blocks of use 1 and the batch's number, counters 0 and 1, cut to the length of a column. The fold of a
-   column under a key starts at 0, and for each 64-bit word of the column in turn is multiplied by the key and has the word
-   added, as polynomials over two elements modulo X^64 + X^4 + X^3 + X + 1. The pad of a row value is SHA-256 of 32 bytes:
-   the letters PADS, the batch number in 8 bytes, the row in 4, and the row value in 16.
+   ChaCha20 block (RFC 8439) whose nonce is a use number, a batch number and 0, of 4 bytes each. Use 0, batch 0,
+   counter 0 gives a node's two children, the left one first. Leaves stand width levels below the root, numbered from 0
+   at the left. A leaf's stream is its blocks of use 1 and the batch's number, counters 0 and 1, cut to the length of a
+   column. The fold of a column under a key starts at 0, and for each 64-bit word of the column in turn is multiplied by
+   the key and has the word added, as polynomials over two elements modulo X^64 + X^4 + X^3 + X + 1. The pad of a row
+   value is SHA-256 of 32 bytes: the letters PADS, the batch number in 8 bytes, the row in 4, and the row value in 16.
 
-   What a function promises below, its answer and what the record and each range hold afterwards, is proved for all inputs
-   (docs/THEOREMS.md tells how). What SECRETS says, the bound on the stack and the two inline functions are tested, not
-   proved. */
+   What a function promises below, its answer and what the record and each range hold afterwards, is proved for all
+   inputs (docs/THEOREMS.md tells how). What SECRETS says, the bound on the stack and the three inline functions are
+   tested, not proved. */
 #ifndef SOFTSPOKEN_H
 #define SOFTSPOKEN_H
 
@@ -50,16 +70,29 @@
 extern "C" {
 #endif
 
-/* The first number rises when a program that was compiled with an older header no longer works. */
-#define SOFTSPOKEN_VERSION "1.0.0"
+/* The major number rises when a program that was compiled with an older header no longer works, the minor one when
+   there is something new. The string and the number, which is for #if, are made of these three. */
+#define SOFTSPOKEN_VERSION_MAJOR 1
+#define SOFTSPOKEN_VERSION_MINOR 1
+#define SOFTSPOKEN_VERSION_PATCH 0
+#define SOFTSPOKEN_VERSION_NUMBER \
+    (SOFTSPOKEN_VERSION_MAJOR * 10000 + SOFTSPOKEN_VERSION_MINOR * 100 + SOFTSPOKEN_VERSION_PATCH)
+#define SOFTSPOKEN_VERSION \
+    SOFTSPOKEN_TEXT(SOFTSPOKEN_VERSION_MAJOR) "." \
+    SOFTSPOKEN_TEXT(SOFTSPOKEN_VERSION_MINOR) "." SOFTSPOKEN_TEXT(SOFTSPOKEN_VERSION_PATCH)
+#define SOFTSPOKEN_TEXT(macro) SOFTSPOKEN_TEXT_OF(macro)
+#define SOFTSPOKEN_TEXT_OF(text) #text
 
-/* ---- Sizes. A width is 1, 2, 4 or 8. A batch has 1 to 15 blocks of 64 transfers, and one block more that is spent on the
-   check: 64 * (blocks + 1) rows. All sizes are exact, and constant expressions where their arguments are. */
+/* ---- Sizes. A width is 1, 2, 4 or 8. A batch has 1 to 15 blocks of 64 transfers, and one block more that is spent on
+   the check: 64 * (blocks + 1) rows. All sizes are exact, and constant expressions where their arguments are. Any
+   32-bit arguments may be given: as in the library's definitions, a quotient by 0 is 0, and a difference stops at 0. A
+   macro that has a width evaluates it more than once. */
 
 #define SOFTSPOKEN_BLOCKS_MAX 15
 #define SOFTSPOKEN_BASE_TRANSFERS 128
-#define SOFTSPOKEN_TREES(width) ((size_t)SOFTSPOKEN_BASE_TRANSFERS / (width))
-#define SOFTSPOKEN_TRANSFERS(blocks) ((size_t)64 * (blocks))
+#define SOFTSPOKEN_TREES(width) \
+    ((width) == 0 ? (size_t)0 : SOFTSPOKEN_BASE_TRANSFERS / ((size_t)(width) + ((width) == 0)))
+#define SOFTSPOKEN_TRANSFERS(blocks) (64 * (size_t)(blocks))
 
 /* One pad, of a base transfer or of a batch. */
 #define SOFTSPOKEN_PAD_BYTES 32
@@ -75,7 +108,8 @@ extern "C" {
 /* A batch. */
 #define SOFTSPOKEN_CHOICES_BYTES(blocks) (8 * ((size_t)(blocks) + 1))
 #define SOFTSPOKEN_TABLE_BYTES(blocks) (128 * SOFTSPOKEN_CHOICES_BYTES(blocks))
-#define SOFTSPOKEN_CORRECTION_BYTES(width, blocks) ((SOFTSPOKEN_TREES(width) - 1) * SOFTSPOKEN_CHOICES_BYTES(blocks))
+#define SOFTSPOKEN_CORRECTION_BYTES(width, blocks) \
+    ((SOFTSPOKEN_TREES(width) - (SOFTSPOKEN_TREES(width) != 0)) * SOFTSPOKEN_CHOICES_BYTES(blocks))
 #define SOFTSPOKEN_CHECK_MESSAGE_BYTES 1032
 #define SOFTSPOKEN_RECEIVER_PADS_BYTES(blocks) (SOFTSPOKEN_PAD_BYTES * SOFTSPOKEN_TRANSFERS(blocks))
 #define SOFTSPOKEN_SENDER_PADS_BYTES(blocks) (2 * SOFTSPOKEN_PAD_BYTES * SOFTSPOKEN_TRANSFERS(blocks))
@@ -88,10 +122,25 @@ enum softspoken_answer {
     SOFTSPOKEN_ERR_BATCH = 3,  /* the batch number is 0, or a new one is not above the last */
     SOFTSPOKEN_ERR_BLOCKS = 4, /* the blocks are not 1 to 15 */
     SOFTSPOKEN_ERR_LENGTH = 5, /* a range has another length than the one named */
-    SOFTSPOKEN_ERR_CHECK = 6   /* the check failed: the receiver cheated, or what it sent was damaged */
+    SOFTSPOKEN_ERR_CHECK = 6   /* the check failed: a cheating receiver, or something was damaged or mixed up */
 };
 
-/* ---- The record of a session. Each side has one of its own for each direction of transfers, and lends it to every step. */
+/* The name of an answer, as it stands above, for a log; "unknown answer" for any other number. */
+static inline const char *softspoken_answer_name(uint32_t answer) {
+    switch (answer) {
+    case SOFTSPOKEN_DONE: return "SOFTSPOKEN_DONE";
+    case SOFTSPOKEN_ERR_WIDTH: return "SOFTSPOKEN_ERR_WIDTH";
+    case SOFTSPOKEN_ERR_STAGE: return "SOFTSPOKEN_ERR_STAGE";
+    case SOFTSPOKEN_ERR_BATCH: return "SOFTSPOKEN_ERR_BATCH";
+    case SOFTSPOKEN_ERR_BLOCKS: return "SOFTSPOKEN_ERR_BLOCKS";
+    case SOFTSPOKEN_ERR_LENGTH: return "SOFTSPOKEN_ERR_LENGTH";
+    case SOFTSPOKEN_ERR_CHECK: return "SOFTSPOKEN_ERR_CHECK";
+    default: return "unknown answer";
+    }
+}
+
+/* ---- The record of a session. Each side has one of its own for each direction of transfers, and lends it to every
+   step. */
 enum softspoken_stage {
     SOFTSPOKEN_STAGE_READY = 0, /* for a new batch */
     SOFTSPOKEN_STAGE_OPEN = 1,  /* a batch is open */
@@ -105,16 +154,19 @@ struct softspoken_record {
     uint32_t stage;
 };
 
-/* ---- Setup, once for a pair. Of the 128 / width trees, tree i has base transfers i * width to i * width + width - 1, one
-   for each level from the root down, and the bits of delta with the same numbers, the lowest first, as its own number. Bit c
-   of delta is at byte c / 8, weight 2^(c % 8). The tree's path ends at the leaf of that number, so it takes the highest bit
-   first. */
+/* ---- Setup, once for a pair. Of the 128 / width trees, tree i has base transfers i * width to i * width + width - 1,
+   one for each level from the root down, and the bits of delta with the same numbers, the lowest first, as its own
+   number. Bit c of delta is at byte c / 8, weight 2^(c % 8). The tree's path ends at the leaf of that number, so it
+   takes the highest bit first. */
 
-/* The sender's choice in a base transfer, 0 to 127, at an allowed width: which of the receiver's two pads it must get there.
-   It is 1 minus the side that the path takes at that level. */
-static inline unsigned softspoken_base_choice(uint32_t width, const uint8_t delta[SOFTSPOKEN_DELTA_BYTES], uint32_t transfer) {
-    uint32_t level = transfer % width, bit = transfer - level + (width - 1 - level);
-    return 1u ^ (delta[bit / 8] >> bit % 8 & 1u);
+/* The sender's choice in a base transfer: which of the receiver's two pads it must get there. It is 1 minus the side
+   that the path takes at that level. For a width that is not 1, 2, 4 or 8, or a transfer that is not 0 to 127, it is 0,
+   and delta isn't read. */
+static inline unsigned softspoken_base_choice(uint32_t width, const uint8_t delta[SOFTSPOKEN_DELTA_BYTES],
+                                              uint32_t transfer) {
+    uint32_t bit = transfer ^ (width - 1); /* level l of a tree takes its bit width - 1 - l */
+    if ((width != 1 && width != 2 && width != 4 && width != 8) || transfer >= SOFTSPOKEN_BASE_TRANSFERS) return 0;
+    return 1u ^ ((unsigned)delta[bit / 8] >> bit % 8 & 1u);
 }
 
 /* The receiver's setup.
@@ -122,15 +174,16 @@ static inline unsigned softspoken_base_choice(uint32_t width, const uint8_t delt
 
    roots      in, secret: SOFTSPOKEN_ROOTS_BYTES(width), drawn at random; 32 for each tree, in tree order. The receiver
               keeps them for every batch.
-   base_pads  in, secret: SOFTSPOKEN_RECEIVER_BASE_PADS_BYTES. For each base transfer, in order, its pad 0 and its pad 1.
-   message    out, sent: SOFTSPOKEN_SETUP_MESSAGE_BYTES. When done: for each base transfer, in order, and for side 0 (left)
-              and then 1, the sum of all children of that side made at that level of the tree, + the base pad of that
-              number. */
+   base_pads  in, secret: SOFTSPOKEN_RECEIVER_BASE_PADS_BYTES. For each base transfer, in order, its pad 0, then its
+              pad 1.
+   message    out, sent: SOFTSPOKEN_SETUP_MESSAGE_BYTES. When done: for each base transfer, in order, and for side 0
+              (left) and then 1, the sum of all children of that side made at that level of the tree, + the base pad of
+              that number. */
 uint32_t softspoken_receiver_setup(uint32_t width, const uint8_t *roots, size_t roots_len, const uint8_t *base_pads,
                                    size_t base_pads_len, uint8_t *message, size_t message_len);
 
 /* The sender's setup. It can't notice a wrong message, or pads of other base transfers: it is done then too, and the
-   siblings are no nodes of the receiver's trees.
+   siblings may be no nodes of the receiver's trees.
    Refusals, in this order: ERR_WIDTH, ERR_LENGTH.
 
    delta      in, secret: SOFTSPOKEN_DELTA_BYTES, drawn at random before the base transfers. Kept for every batch.
@@ -138,26 +191,27 @@ uint32_t softspoken_receiver_setup(uint32_t width, const uint8_t *roots, size_t 
               softspoken_base_choice(width, delta, transfer).
    message    in, sent: SOFTSPOKEN_SETUP_MESSAGE_BYTES, from the receiver's setup of the same width.
    siblings   out, secret: SOFTSPOKEN_SIBLINGS_BYTES. When done: for each base transfer, in order, the node beside the
-              path at that level: the masked total of its side, + the base pad, + all other children of that side made at
-              that level, which come from the siblings above. Kept for every batch. */
+              path at that level: the masked total of its side, + the base pad, + all other children of that side made
+              at that level, which come from the siblings above. Kept for every batch. */
 uint32_t softspoken_sender_setup(uint32_t width, const uint8_t *delta, size_t delta_len, const uint8_t *base_pads,
                                  size_t base_pads_len, const uint8_t *message, size_t message_len, uint8_t *siblings,
                                  size_t siblings_len);
 
-/* Opens a session, whatever the record held. Open once for a setup: opening again lets batch numbers be used again, which
-   give the same choices and rows again, and lets a receiver whose check failed guess again at the same delta.
+/* Opens a session, whatever the record held. Open once for a setup: opening again lets batch numbers be used again,
+   which give the same choices and rows again, and lets a receiver whose check failed guess again at the same delta.
    Refusals: ERR_WIDTH.
 
    record     when done: width as given, last 0, blocks 0, stage ready. */
 uint32_t softspoken_open(struct softspoken_record *record, uint32_t width);
 
-/* ---- A batch. A column has SOFTSPOKEN_CHOICES_BYTES(blocks) bytes; its row j is at byte j / 8, weight 2^(j % 8). A table
-   has 128 columns, one after the other; column i * width + b belongs to tree i and its bit b. A row value gathers a row's bit
-   of all 128 columns in 16 bytes, ordered as in delta. Transfer j is row j; the rows of the last block get no pads. */
+/* ---- A batch. A column has SOFTSPOKEN_CHOICES_BYTES(blocks) bytes; its row j is at byte j / 8, weight 2^(j % 8). A
+   table has 128 columns, one after the other; column i * width + b belongs to tree i and its bit b. A row value gathers
+   a row's bit of all 128 columns in 16 bytes, ordered as in delta. Transfer j is row j; the rows of the last block get
+   no pads. */
 
-/* The choice bit of a row. */
+/* The choice bit of a row, which must be one of the batch: 0 to 64 * (blocks + 1) - 1. */
 static inline unsigned softspoken_choice(const uint8_t *choices, size_t row) {
-    return choices[row / 8] >> row % 8 & 1u;
+    return (unsigned)choices[row / 8] >> row % 8 & 1u;
 }
 
 /* The receiver's start of a batch, on a ready record. The width is the record's.
@@ -168,18 +222,19 @@ static inline unsigned softspoken_choice(const uint8_t *choices, size_t row) {
    roots      in, secret: SOFTSPOKEN_ROOTS_BYTES(width), those of the setup.
    batch      1 to 4294967295; both sides give the same.
    blocks     1 to 15; both sides give the same.
-   choices    out, secret: SOFTSPOKEN_CHOICES_BYTES(blocks). When done: a choice bit for every row, the sum of the streams of
-              all leaves of tree 0. The host can't choose them: they come from the roots.
-   table      out, secret: SOFTSPOKEN_TABLE_BYTES(blocks). When done: for tree i, bit b, the sum of the streams of the leaves
-              whose number has bit b.
+   choices    out, secret: SOFTSPOKEN_CHOICES_BYTES(blocks). When done: a choice bit for every row, the sum of the
+              streams of all leaves of tree 0. The host can't choose them: they come from the roots.
+   table      out, secret: SOFTSPOKEN_TABLE_BYTES(blocks). When done: for tree i, bit b, the sum of the streams of the
+              leaves whose number has bit b.
    correction out, sent: SOFTSPOKEN_CORRECTION_BYTES(width, blocks). When done: for each tree from 1 on, the sum of the
               streams of all its leaves, + choices. */
-uint32_t softspoken_receiver_start(struct softspoken_record *record, const uint8_t *roots, size_t roots_len, uint32_t batch,
-                                   uint32_t blocks, uint8_t *choices, size_t choices_len, uint8_t *table, size_t table_len,
-                                   uint8_t *correction, size_t correction_len);
+uint32_t softspoken_receiver_start(struct softspoken_record *record, const uint8_t *roots, size_t roots_len,
+                                   uint32_t batch, uint32_t blocks, uint8_t *choices, size_t choices_len,
+                                   uint8_t *table, size_t table_len, uint8_t *correction, size_t correction_len);
 
-/* The sender's correction of a batch, on a ready record. The width is the record's. A wrong correction isn't noticed here; the
-   verify accepts it only where the errors in what the receiver sent cancel in every column (docs/THEOREMS.md, demand 3).
+/* The sender's correction of a batch, on a ready record. The width is the record's. A wrong correction isn't noticed
+   here. After an honest setup the verify accepts it only where the errors in what the receiver sent cancel in every
+   column (docs/THEOREMS.md, demand 3).
    Refusals, in this order: ERR_WIDTH; ERR_STAGE unless ready; ERR_BATCH if batch is 0 or not above last; ERR_BLOCKS;
    ERR_LENGTH.
 
@@ -189,46 +244,49 @@ uint32_t softspoken_receiver_start(struct softspoken_record *record, const uint8
    batch, blocks  as in the receiver's start.
    correction in, sent: SOFTSPOKEN_CORRECTION_BYTES(width, blocks), from the receiver's start.
    table      out, secret: SOFTSPOKEN_TABLE_BYTES(blocks). When done: for tree i, bit b, the sum of the streams of those
-              leaves, made from the siblings, whose number exclusive or the tree's number has bit b; + the tree's correction
-              where delta has the bit (tree 0 has none). If both sides are honest, row value j is the receiver's row value
-              j, + delta where choice j is 1. */
+              leaves, made from the siblings, whose number exclusive or the tree's number has bit b; + the tree's
+              correction where delta has the bit (tree 0 has none). If both sides are honest, row value j is the
+              receiver's row value j, + delta where choice j is 1. */
 uint32_t softspoken_sender_correct(struct softspoken_record *record, const uint8_t *siblings, size_t siblings_len,
                                    const uint8_t *delta, size_t delta_len, uint32_t batch, uint32_t blocks,
                                    const uint8_t *correction, size_t correction_len, uint8_t *table, size_t table_len);
 
-/* The receiver's answer to the sender's key, which ends the batch. The record must be open; blocks and batch number are the
-   record's. A batch must be answered for one key only: the record sees to that, as long as it is not set back.
+/* The receiver's answer to the sender's key, which ends the batch. The record must be open; blocks and batch number are
+   the record's. A batch must be answered for one key only: the record sees to that, as long as it is not set back.
+   Don't use the pads before the sender's verify is done: if it fails they are wiped (A FAILED CHECK).
    Refusals, in this order: ERR_WIDTH; ERR_STAGE unless open; ERR_BATCH if last is 0; ERR_BLOCKS; ERR_LENGTH.
 
    record     when done: blocks 0, stage ready; width and last stay.
    key        from the sender: any number.
    choices    in, secret: SOFTSPOKEN_CHOICES_BYTES(blocks), and
    table      in, secret: SOFTSPOKEN_TABLE_BYTES(blocks): those of the receiver's start.
-   message    out, sent: SOFTSPOKEN_CHECK_MESSAGE_BYTES. When done: under the key, the fold of the choices, then that of each
-              column of the table, 8 bytes each.
-   pads       out, secret: SOFTSPOKEN_RECEIVER_PADS_BYTES(blocks). When done: at 32 * j the pad of row value j. If both sides
-              are honest, it is the sender's pad of transfer j that softspoken_choice(choices, j) numbers. */
-uint32_t softspoken_receiver_answer(struct softspoken_record *record, uint64_t key, const uint8_t *choices, size_t choices_len,
-                                    const uint8_t *table, size_t table_len, uint8_t *message, size_t message_len, uint8_t *pads,
-                                    size_t pads_len);
+   message    out, sent: SOFTSPOKEN_CHECK_MESSAGE_BYTES. When done: under the key, the fold of the choices, then that of
+              each column of the table, 8 bytes each.
+   pads       out, secret: SOFTSPOKEN_RECEIVER_PADS_BYTES(blocks). When done: at 32 * j the pad of row value j. If both
+              sides are honest, it is the sender's pad of transfer j that softspoken_choice(choices, j) numbers. */
+uint32_t softspoken_receiver_answer(struct softspoken_record *record, uint64_t key, const uint8_t *choices,
+                                    size_t choices_len, const uint8_t *table, size_t table_len, uint8_t *message,
+                                    size_t message_len, uint8_t *pads, size_t pads_len);
 
-/* The sender's verify of the check message, which ends the batch. The record must be open; blocks and batch number are the
-   record's. The check passes exactly when in every column c the sent fold of the column + the fold of the table's column is
-   the sent fold of the choices where delta has bit c, and 0 elsewhere. So an honest receiver passes; and after an honest
-   setup, whatever was sent, a tree whose folded error isn't 0 (docs/THEOREMS.md, demand 3) passes for at most one value of
-   its bits of delta. All columns are looked at before the answer, which tells none from another.
+/* The sender's verify of the check message, which ends the batch. The record must be open; blocks and batch number are
+   the record's. The check passes exactly when in every column c the sent fold of the column + the fold of the table's
+   column is the sent fold of the choices where delta has bit c, and 0 elsewhere. So after an honest setup an honest
+   receiver passes; and whatever was sent after an honest setup, a tree whose folded error isn't 0 (docs/THEOREMS.md,
+   demand 3) passes for at most one value of its bits of delta. All columns are looked at before the answer, which tells
+   none from another.
    Refusals, in this order: ERR_WIDTH; ERR_STAGE unless open; ERR_BATCH if last is 0; ERR_BLOCKS; ERR_LENGTH; ERR_CHECK.
 
-   record     when done: blocks 0, stage ready; width and last stay. After ERR_CHECK: stage closed, all else stays.
+   record     when done: blocks 0, stage ready; width and last stay. After ERR_CHECK: stage closed, all else stays; what
+              both sides must do then, A FAILED CHECK says.
    key        drawn at random once the correction has come, and then told to the receiver: any number.
    table      in, secret: SOFTSPOKEN_TABLE_BYTES(blocks), that of the sender's correction.
    delta      in, secret: SOFTSPOKEN_DELTA_BYTES, that of the setup.
    message    in, sent: SOFTSPOKEN_CHECK_MESSAGE_BYTES, from the receiver's answer.
-   pads       out, secret: SOFTSPOKEN_SENDER_PADS_BYTES(blocks). When done: for transfer j, pad 0 at 64 * j, the pad of row
-              value j, and pad 1 at 64 * j + 32, that of row value j + delta. */
-uint32_t softspoken_sender_verify(struct softspoken_record *record, uint64_t key, const uint8_t *table, size_t table_len,
-                                  const uint8_t *delta, size_t delta_len, const uint8_t *message, size_t message_len,
-                                  uint8_t *pads, size_t pads_len);
+   pads       out, secret: SOFTSPOKEN_SENDER_PADS_BYTES(blocks). When done: for transfer j, pad 0 at 64 * j, the pad of
+              row value j, and pad 1 at 64 * j + 32, that of row value j + delta. */
+uint32_t softspoken_sender_verify(struct softspoken_record *record, uint64_t key, const uint8_t *table,
+                                  size_t table_len, const uint8_t *delta, size_t delta_len, const uint8_t *message,
+                                  size_t message_len, uint8_t *pads, size_t pads_len);
 
 #ifdef __cplusplus
 }

@@ -1,23 +1,40 @@
 #!/usr/bin/env bash
-# Installs the library under a prefix of its own, and builds and runs examples/pair.c against that as a host would: by gcc and by clang,
-# warnings being errors, plain, under memcheck, and under the address and undefined-behaviour sanitizers. The header must stand alone.
+# Installs the library under a prefix of its own, and builds and runs examples/pair.c against that as a host would: by gcc and by
+# clang, warnings being errors, as C99 and as C11, plain, under memcheck, and under the address and undefined-behaviour sanitizers. The
+# header must stand alone, and its inline functions must be safe on any numbers.
 set -eu
 cd "$(dirname "$0")/.."
 out=$(mktemp -d)
 trap 'rm -r "$out"' EXIT
-make -s install PREFIX="$out/prefix"
-export PKG_CONFIG_PATH="$out/prefix/lib/pkgconfig"
-read -ra cflags <<<"-Wall -Wextra -Werror $(pkg-config --cflags softspoken)"
-read -ra libs <<<"$(pkg-config --libs softspoken)"
-read -ra sanitized <<<"-g -O1 -fsanitize=address,undefined -fno-sanitize-recover=all"
+strict=(-pedantic -Wall -Wextra -Werror)
+sanitized=(-g -O1 -fsanitize=address,undefined -fno-sanitize-recover=all)
 
 cat >"$out/expected" <<'END'
 batch 1: 960 pads of the receiver are the sender's of its choice
 batch 2: 960 pads of the receiver are the sender's of its choice
 batch 3: 960 pads of the receiver are the sender's of its choice
-verify: refused, 6
-correct: refused, 2
+verify: refused, SOFTSPOKEN_ERR_CHECK
+correct: refused, SOFTSPOKEN_ERR_STAGE
 END
+
+# runs a command and compares what it prints
+expect() {
+    if ! "$@" >"$out/printed" || ! cmp -s "$out/printed" "$out/expected"; then
+        echo "example: not what is expected of: ${*#"$out/"}"
+        cat "$out/printed"
+        exit 1
+    fi
+}
+
+# sets the words that a host compiles and links with, as pkg-config gives them for the library under a prefix
+use() {
+    export PKG_CONFIG_PATH="$1/lib/pkgconfig"
+    eval "cflags=($(pkg-config --cflags softspoken)) libs=($(pkg-config --libs softspoken))"
+}
+
+make -s install PREFIX="$out/prefix"
+use "$out/prefix"
+version=$(pkg-config --modversion softspoken)
 
 # The archive has no data that a call could keep, exports what the header declares, and needs no more than is told.
 if [ "$(size build/libsoftspoken.a | awk 'NR > 1 { n += $2 + $3 } END { print n }')" != 0 ]; then
@@ -31,28 +48,39 @@ if ! diff "$out/names" "$out/declared"; then
     exit 1
 fi
 
-# runs a command and compares what it prints
-expect() {
-    if ! "$@" >"$out/printed" || ! cmp -s "$out/printed" "$out/expected"; then
-        echo "example: not what is expected of: ${*#"$out/"}"
-        cat "$out/printed"
+for cc in gcc clang; do
+    for std in c99 c11; do
+        "$cc" -std=$std -O2 "${strict[@]}" "${cflags[@]}" -o "$out/pair" examples/pair.c "${libs[@]}"
+        expect "$out/pair"
+        "$cc" -std=$std "${strict[@]}" -Wconversion "${cflags[@]}" -fsyntax-only tests/header.c
+    done
+    expect valgrind -q --error-exitcode=9 --leak-check=full --track-origins=yes "$out/pair"
+    "$cc" "${sanitized[@]}" "${strict[@]}" "${cflags[@]}" -o "$out/sanitized" examples/pair.c "${libs[@]}"
+    expect "$out/sanitized"
+    "$cc" -std=c++11 "${strict[@]}" -Wconversion "${cflags[@]}" -fsyntax-only -x c++ tests/header.c
+    "$cc" -std=c++11 "${strict[@]}" -Wconversion "${cflags[@]}" -fsyntax-only -x c++ tests/inline.c
+    "$cc" -std=c99 "${sanitized[@]}" "${strict[@]}" -Wconversion "${cflags[@]}" -o "$out/inline" tests/inline.c
+    "$out/inline" "$version"
+done
+
+# puts a wrong header into a folder: an edit of the right one, which must change it
+wrong() {
+    mkdir -p "$out/wrong"
+    sed "$1" include/softspoken.h >"$out/wrong/softspoken.h"
+    if cmp -s include/softspoken.h "$out/wrong/softspoken.h"; then
+        echo "example: the header has nothing for the edit $1"
         exit 1
     fi
 }
-
-for cc in gcc clang; do
-    "$cc" -O2 "${cflags[@]}" -o "$out/pair" examples/pair.c "${libs[@]}"
-    expect "$out/pair"
-    expect valgrind -q --error-exitcode=9 --leak-check=full --track-origins=yes "$out/pair"
-    "$cc" "${sanitized[@]}" "${cflags[@]}" -o "$out/sanitized" examples/pair.c "${libs[@]}"
-    expect "$out/sanitized"
-    "$cc" -std=c99 -pedantic "${cflags[@]}" -fsyntax-only tests/header.c
-    "$cc" -std=c++11 -pedantic "${cflags[@]}" -fsyntax-only -x c++ tests/header.c
-done
-mkdir "$out/wrong"
-sed 's/_SIBLINGS_BYTES 4096/_SIBLINGS_BYTES 4095/' include/softspoken.h >"$out/wrong/softspoken.h"
+wrong 's/_SIBLINGS_BYTES 4096/_SIBLINGS_BYTES 4095/'
 if gcc -I"$out/wrong" -fsyntax-only tests/header.c 2>"$out/log" || ! grep -q 'holds_' "$out/log"; then
     echo "example: a wrong size in the header was not seen"
+    exit 1
+fi
+wrong 's/ || transfer >= SOFTSPOKEN_BASE_TRANSFERS//'
+clang "${sanitized[@]}" -I"$out/wrong" -o "$out/inline" tests/inline.c
+if "$out/inline" "$version" >"$out/log" 2>&1 || ! grep -q 'heap-buffer-overflow' "$out/log"; then
+    echo "example: a read beyond delta was not seen"
     exit 1
 fi
 echo "example: runs as expected by gcc and clang, plain, under memcheck and sanitized; the header stands alone in C and C++"
