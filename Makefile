@@ -5,9 +5,6 @@
 #   make test                 tests/run: what is tested beside the gate
 #   make clean
 
-PREFIX ?= /usr/local
-VERSION := $(shell awk '/define SOFTSPOKEN_VERSION_(MAJOR|MINOR|PATCH) / { printf "%s%s", dot, $$3; dot = "." }' include/softspoken.h)
-
 .PHONY: all install test clean
 .NOTPARALLEL:
 all: build/libsoftspoken.a
@@ -22,12 +19,17 @@ build/libsoftspoken.a build/libbench.a: $(PROVED)
 	@if grep 'axioms=' build/$(crate).log; then echo 'the proof rests on assumed C functions'; exit 1; fi
 	cp target/staticlib/lib$(crate).a $@
 
+# A relative prefix is made absolute. Its first word tells, if there are spaces in it.
+PREFIX ?= /usr/local
+prefix = $(if $(filter-out /%,$(firstword $(PREFIX))),$(CURDIR)/)$(PREFIX)
+to = $(DESTDIR)$(prefix)
+VERSION := $(shell awk '/define SOFTSPOKEN_VERSION_(MAJOR|MINOR|PATCH) / { printf "%s%s", dot, $$3; dot = "." }' include/softspoken.h)
 install: build/libsoftspoken.a
-	install -d $(DESTDIR)$(PREFIX)/include $(DESTDIR)$(PREFIX)/lib/pkgconfig
-	install -m 644 include/softspoken.h $(DESTDIR)$(PREFIX)/include
-	install -m 644 build/libsoftspoken.a $(DESTDIR)$(PREFIX)/lib
-	printf '%s\n' 'prefix=$(PREFIX)' 'Name: softspoken' 'Description: oblivious transfer extension, proved' 'Version: $(VERSION)' \
-	    'Cflags: -I$${prefix}/include' 'Libs: -L$${prefix}/lib -lsoftspoken' >$(DESTDIR)$(PREFIX)/lib/pkgconfig/softspoken.pc
+	install -d "$(to)/include" "$(to)/lib/pkgconfig"
+	install -m 644 include/softspoken.h "$(to)/include"
+	install -m 644 build/libsoftspoken.a "$(to)/lib"
+	printf '%s\n' "prefix=$(prefix)" 'Name: softspoken' 'Description: oblivious transfer extension, proved' 'Version: $(VERSION)' \
+	    'Cflags: -I"$${prefix}/include"' 'Libs: -L"$${prefix}/lib" -lsoftspoken' >"$(to)/lib/pkgconfig/softspoken.pc"
 
 test:
 	tests/run

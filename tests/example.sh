@@ -1,9 +1,10 @@
 #!/usr/bin/env bash
-# Installs the library under a prefix of its own, and builds and runs examples/pair.c against that as a host would: by gcc and by
+# Installs the library in each way that a host may ask for, and builds and runs examples/pair.c against that as a host would: by gcc and by
 # clang, warnings being errors, as C99 and as C11, plain, under memcheck, and under the address and undefined-behaviour sanitizers. The
 # header must stand alone, and its inline functions must be safe on any numbers.
 set -eu
 cd "$(dirname "$0")/.."
+root=$PWD
 out=$(mktemp -d)
 trap 'rm -r "$out"' EXIT
 strict=(-pedantic -Wall -Wextra -Werror)
@@ -32,6 +33,21 @@ use() {
     eval "cflags=($(pkg-config --cflags softspoken)) libs=($(pkg-config --libs softspoken))"
 }
 
+# Under a relative prefix, one with a space, and a staged one that is then moved to its place. The compiler runs elsewhere.
+make -s install PREFIX="$(realpath --relative-to=. "$out")/relative"
+make -s install PREFIX="$out/with a space"
+make -s install PREFIX="$out/staged" DESTDIR="$out/stage"
+mv "$out/stage$out/staged" "$out/staged"
+make -s install PREFIX=staged/too DESTDIR="$out/stage"
+if ! grep -qx "prefix=$root/staged/too" "$out/stage$root/staged/too/lib/pkgconfig/softspoken.pc"; then
+    echo "example: the prefix in the pkg-config file is not absolute"
+    exit 1
+fi
+for prefix in "$out/relative" "$out/with a space" "$out/staged"; do
+    use "$prefix"
+    (cd "$out" && gcc "${cflags[@]}" -o pair "$root/examples/pair.c" "${libs[@]}")
+    expect "$out/pair"
+done
 make -s install PREFIX="$out/prefix"
 use "$out/prefix"
 version=$(pkg-config --modversion softspoken)
