@@ -27,27 +27,29 @@
 
    A FAILED CHECK. After SOFTSPOKEN_ERR_CHECK the sender's record is closed, and neither side goes on with this setup:
    a failed check tells a cheating receiver something about delta. The sender tells the receiver that the check failed,
-   and nothing else. The receiver's record is ready, and it holds pads of that batch: it must not use them. The receiver
-   wipes its roots, choices, table and pads, the sender its delta, siblings and table. To go on they make a new setup,
-   with new base transfers.
+   and nothing else. The receiver's record is ready, and the receiver holds pads of that batch: it must not use them.
+   The receiver wipes its roots, choices, table and pads, the sender its delta, siblings and table. To go on they make a
+   new setup, with new base transfers.
 
    SECRETS. Each range is marked 'secret' (this side tells it to nobody) or 'sent' (to or from the other side). Records,
    widths, batch numbers, blocks, lengths, keys and answers are public. No branch and no address depends on a byte of
    any range, but for one jump in softspoken_sender_verify, on its answer.
 
-   THE LINE. The library carries nothing. Beside the three messages the host carries batch number, blocks and key, which
-   must be the same on both sides. We advise 4 bytes for the batch number, 4 for the blocks and 8 for the key, each
-   little-endian. The host authenticates the line; the check doesn't. It is no test of every byte: half of the setup
-   message is never used, nor is the correction of a tree whose bits of delta are all 0.
+   THE LINE. The library carries nothing. Beside the three messages the host carries batch number, blocks and key. They
+   must be the same on both sides, as must the width. We advise 4 bytes for the batch number, 4 for the blocks and 8 for
+   the key, each little-endian. The host must authenticate the line. The check doesn't do that: half of the setup
+   message is never used, nor is the correction of a tree whose bits of delta are all 0. What is altered there alone is
+   not noticed.
 
    STORE AND WIPE. Store the record after each step that is done, before you send what the step wrote. Store with it
    what the rest of the batch needs: what the step wrote, and at the sender the key, before it is sent. A record that is
-   set back lets a batch run twice. Wipe the base pads after the setup. Wipe choices and tables after the batch, and
-   pads once they are used. Wipe roots, delta and siblings when you give the setup up.
+   set back lets a batch run twice: the sender may then learn choices, or a cheating receiver may guess again. Wipe the
+   base pads after the setup. Wipe choices and tables after the batch, and pads once they are used. Wipe roots, delta
+   and siblings when you give the setup up.
 
-   A HOST'S TEST of the refusal changes a byte of the check message: message[8 + 8 * c], for a c from 0 to 127. With
-   nothing else changed this is refused for every delta. Don't change the correction for it: one wrong bit in the
-   correction of one tree passes with chance 2^-width, when the tree's bits of delta are all 0 and it isn't used.
+   TO TEST A HOST on a failed check, change one byte of the check message: message[8 + 8 * c], for one c from 0 to 127.
+   With nothing else changed this is refused for every delta. Don't change the correction: one wrong bit in one tree's
+   correction passes with a chance of 2^-width, as the tree doesn't use it where its bits of delta are all 0.
 
    VALUES. Below, + of bytes is exclusive or, and numbers are little-endian. A node of a tree is 32 bytes, the key of a
    ChaCha20 block (RFC 8439) whose nonce is a use number, a batch number and 0, of 4 bytes each. Use 0, batch 0,
@@ -122,7 +124,7 @@ enum softspoken_answer {
     SOFTSPOKEN_ERR_BATCH = 3,  /* the batch number is 0, or a new one is not above the last */
     SOFTSPOKEN_ERR_BLOCKS = 4, /* the blocks are not 1 to 15 */
     SOFTSPOKEN_ERR_LENGTH = 5, /* a range has another length than the one named */
-    SOFTSPOKEN_ERR_CHECK = 6   /* the check failed: a cheating receiver, or something was damaged or mixed up */
+    SOFTSPOKEN_ERR_CHECK = 6   /* the check failed: the receiver cheated, or something was damaged or mixed up */
 };
 
 /* The name of an answer, as it stands above, for a log; "unknown answer" for any other number. */
@@ -164,8 +166,8 @@ struct softspoken_record {
    and delta isn't read. */
 static inline unsigned softspoken_base_choice(uint32_t width, const uint8_t delta[SOFTSPOKEN_DELTA_BYTES],
                                               uint32_t transfer) {
-    uint32_t bit = transfer ^ (width - 1); /* level l of a tree takes its bit width - 1 - l */
     if ((width != 1 && width != 2 && width != 4 && width != 8) || transfer >= SOFTSPOKEN_BASE_TRANSFERS) return 0;
+    uint32_t bit = transfer ^ (width - 1); /* level l of a tree takes its bit width - 1 - l */
     return 1u ^ ((unsigned)delta[bit / 8] >> bit % 8 & 1u);
 }
 
