@@ -149,6 +149,14 @@ static void layers(void) {
     RUN("gf64::fold_four", bench_fold_four(table, roots, 512, 128, folds), folds);
 }
 
+/* The header's functions that read a secret, as this compiler makes them. */
+static void inline_functions(void) {
+    uint8_t bits[SOFTSPOKEN_BASE_TRANSFERS];
+    for (uint32_t width = 1; width <= 8; width *= 2)
+        RUN("base choice", for (uint32_t t = 0; t < sizeof bits; t++) bits[t] = softspoken_base_choice(width, delta, t), bits);
+    RUN("choice", for (size_t row = 0; row < sizeof bits; row++) bits[row] = softspoken_choice(roots, row), bits);
+}
+
 /* Planted leaks, a jump and an address that a secret decides, to see that the test can fail. */
 
 __attribute__((noinline)) static int planted_jump(void) {
@@ -179,6 +187,7 @@ int main(int argc, char **argv) {
     if (!strcmp(planted, "jump")) return planted_jump();
     if (!strcmp(planted, "address")) return planted_address();
     layers();
+    inline_functions();
     for (uint32_t width = 1; width <= 8; width *= 2) {
         setups(width);
         batch(width, 1);
