@@ -36,16 +36,20 @@ static void draw(void *range, size_t n) {
         if (getentropy((uint8_t *)range + at, n - at < 256 ? n - at : 256) != 0) abort();
 }
 
-/* After a batch, once its pads are used. */
+/* Once the pads of a batch are used. */
 static void wipe_batch(void) {
-    WIPE(receiver.choices), WIPE(receiver.table), WIPE(receiver.pads);
-    WIPE(sender.table), WIPE(sender.pads);
+    WIPE(receiver.choices);
+    WIPE(receiver.table);
+    WIPE(receiver.pads);
+    WIPE(sender.table);
+    WIPE(sender.pads);
 }
 
-/* When the setup is given up: each side wipes what it kept of it. */
+/* When the setup is given up. */
 static void wipe_setup(void) {
     WIPE(receiver.roots);
-    WIPE(sender.delta), WIPE(sender.siblings);
+    WIPE(sender.delta);
+    WIPE(sender.siblings);
 }
 
 /* What a host does on each answer; whether the pair goes on with the batch. */
@@ -76,7 +80,8 @@ static int setup(void) {
         !done("sender setup", softspoken_sender_setup(WIDTH, RANGE(sender.delta), RANGE(sender.base_pads),
                                                       RANGE(sent.setup), RANGE(sender.siblings))))
         return 0;
-    WIPE(receiver.base_pads), WIPE(sender.base_pads);
+    WIPE(receiver.base_pads);
+    WIPE(sender.base_pads);
     return done("receiver open", softspoken_open(&receiver.record, WIDTH)) &&
            done("sender open", softspoken_open(&sender.record, WIDTH));
 }

@@ -99,4 +99,5 @@ if "$out/inline" "$version" >"$out/log" 2>&1 || ! grep -q 'heap-buffer-overflow'
     echo "example: a read beyond delta was not seen"
     exit 1
 fi
-echo "example: runs as expected by gcc and clang, plain, under memcheck and sanitized; the header stands alone in C and C++"
+echo "example: runs as expected by gcc and clang, plain, under memcheck and sanitized; the header stands alone in C and C++, and its inline" \
+    "functions are safe on any numbers"
