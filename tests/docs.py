@@ -1,8 +1,9 @@
 #!/usr/bin/env python3
 """The documents say of files what stands there. A block after a line that names a file stands word for word in that file. A link leads to a
 file, and one with an anchor to a heading. A function written crate::name is in that crate, and so is a definition written crate: File.name,
-and a must-fail edit written crate/edit. The table of answers has the header's names and numbers. Every crate stands in the layers and in
-the table of crates. The sizes are those that tests/sizes.py counts, and README is a page."""
+and a must-fail edit written crate/edit. What README and INTEGRATION name of the C library is in the header, and the table of answers has
+its numbers. Every crate stands in the layers and in the table of crates. The sizes are those that tests/sizes.py counts, and README is a
+page."""
 
 import pathlib
 import re
@@ -58,7 +59,7 @@ def is_section(path, anchor):
 
 known = set(functions())
 failures = []
-seen = dict(blocks=0, links=0, anchors=0, edits=0, functions=0, definitions=0, answers=0, crates=0, sizes=0)
+seen = dict(blocks=0, links=0, anchors=0, edits=0, functions=0, definitions=0, names=0, answers=0, crates=0, sizes=0)
 
 
 def expect(kind, page, what, holds):
@@ -72,6 +73,12 @@ def check_links(page, text):
         path, _, anchor = target.partition("#")
         kind = "anchors" if anchor else "links"
         expect(kind, page, f"nothing at {target}", "://" in target or is_section(page.parent / path if path else page, anchor))
+
+
+def check_names(page, text):
+    """What a host reads names nothing that the header hasn't."""
+    for name in sorted(set(re.findall(r"\b(?:softspoken|SOFTSPOKEN)_\w+", text))):
+        expect("names", page, f"no {name} in the header", re.search(rf"\b{name}\b", HEADER))
 
 
 def check_answers(page):
@@ -122,6 +129,8 @@ for page in PAGES:
     check_links(page, text)
     for crate, name in edits(text):
         expect("edits", page, f"no edit {crate}/{name}", (ROOT / f"crates/{crate}/must-fail/{name}.edit").exists())
+    if page in (README, INTEGRATION):
+        check_names(page, text)
     if page.name == "SCOPE.md":
         for name in re.findall(r"`(\w+(?:::\w+)+)`", text):
             expect("functions", page, f"no function {name}", name in known)
