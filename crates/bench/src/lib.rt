@@ -61,7 +61,8 @@ pub extern "C" fn bench_fold_table(key: u64, table: &mut [u32; 512])
     *table = gf64::table(key);
 }
 
-// The folds of four columns by the table of a key, or of none where the lengths do not fit.
+// The folds of four columns by the table of a key, or of none where the lengths do not fit: out is then as it was. (Where they fit and the
+// table is no key's, which four numbers out holds is left open: paper 01 knows no such table.)
 #[no_mangle]
 pub extern "C" fn bench_fold_four(table: &[u32; 512], s: &[u8], len: usize, out: &mut [u64; 4])
     ensures { λ _. ⌜ ((g : ℕ) → now (table .entry) ≡ keyTable g → now (out .exit) ≡ foldsWhere g len (now (s .entry)) (now (out .entry))) ⌝ }

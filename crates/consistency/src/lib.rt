@@ -26,7 +26,8 @@ fn store_four(out: &mut [u8], x: [u64; 4])
     }
 }
 
-// The folds of m columns of len bytes, 8 bytes each, by the table of a key. (Both sides of the check fold by it.)
+// The folds of m columns of len bytes, 8 bytes each, by the table of a key. (Both sides of the check fold by it. What out holds by anything
+// but a key's table is left open, as in gf64::fold_four; both callers make theirs by gf64::table.)
 pub fn fold_columns(m: usize, len: usize, t: &[u32; 512], table: &[u8], out: &mut [u8])
     requires { ⌜ (m % 4 ≡ 0) × (length (now table) ≡ m * len) × (length (now out) ≡ 8 * m) ⌝ }
     ensures { λ _. ⌜ ((g : ℕ) → now (t .entry) ≡ keyTable g → now (out .exit) ≡ concat m (λ c. bytes 8 (foldBytes g (columnOf len (now (table .entry)) c)))) ⌝ }
