@@ -58,9 +58,11 @@ fn add_level(
     let r = k - 1 - level;
     let at = r * u.len();
     let end = at + u.len();
-    add_where(&mut v[at..end], u, tree::side::of_four(k, level, sides));
+    let bit_zero = tree::side::of_four(k, level, sides);
+    let all = [1; 4];
+    add_where(&mut v[at..end], u, bit_zero);
     tree::walk(stream, r, &tree::nodes_at(s, 32 * level), u, v);
-    add_where(&mut v[at..end], u, [1; 4]);
+    add_where(&mut v[at..end], u, all);
 }
 
 // All levels of four trees of k levels, from their siblings in s. u has the corrections, and v is zero.

@@ -19,7 +19,10 @@ use Rattle.sender_columns.proofs.add_level.Tie as tie
 
 -- where the proof comes back to: the calls before, and the entry
 abbrev entry : tie.After-of-four → tie.Start
-entry c = c .before .before .before .before .before .before .before
+entry c = c .before .before .before .before .before
+
+abbrev at-sides : tie.After-add-where → tie.After-of-four
+at-sides c = c .before .before .before
 
 abbrev at-mask : tie.After-walk-arg3 → tie.After-add-where
 at-mask c = c .before .before .before .before .before .before
@@ -54,8 +57,11 @@ mul-at c = omega (arith, fits (c .before .before .before .before))
 add-end : tie.Need-add-end
 add-end c = omega (arith, fits (c .before .before .before .before))
 
+of-four-requires : tie.Need-of-four-requires
+of-four-requires c κs = omega arith
+
 mul-add-where : tie.Need-mul-add-where
-mul-add-where c = omega (arith, fits (c .before .before .before .before))
+mul-add-where c = omega (arith, fits (entry c))
 
 sub-add-where : tie.Need-sub-add-where
 sub-add-where c = omega arith
@@ -64,41 +70,38 @@ part-add-where-start : tie.Need-part-add-where-start
 part-add-where-start c = omega arith
 
 part-add-where-end : tie.Need-part-add-where-end
-part-add-where-end c = omega (arith, fits (c .before .before .before .before))
-
-of-four-requires : tie.Need-of-four-requires
-of-four-requires c κs = omega arith
+part-add-where-end c = omega (arith, fits (entry c))
 
 add-where-requires : tie.Need-add-where-requires
 add-where-requires c κs =
-    let s = entry c in
+    let s = entry (c .before .before) in
     let n = length (now (s .args .u)) in
     let at : ℕ = (s .args .k - 1 - s .args .level) * n in
     let size : at + n - at ≡ n = omega arith in (
       mid-len at (at + n) (now (s .args .v)) (omega (arith, fits s)) ∙ size,
       omega (arith, s .pre .1 .0),
       λ i.
-          rw (c .of-four .ensures)
+          rw (c .before .before .of-four .ensures)
           (tabulate-lt 4 2 (λ j. getD (now (s .args .sides)) (j * s .args .k + s .args .level) 0) (omega arith)
           (λ j. s .pre .0 .3 (j * s .args .k + s .args .level)) i),
     )
 
 -- the first addition
 added : (c : tie.After-add-where)
-    → let s = entry (c .before) in
+    → let s = entry (at-sides c) in
     let n = length (now (s .args .u)) in
     let at = (s .args .k - 1 - s .args .level) * n in
     let v′ = putMid at (at + n - at) (now (s .args .v)) (c .add-where .last .0) in
     (v′ ≡ xorPart (now (s .args .v)) at n (ofSide (s .args .k) (s .args .level) (now (s .args .sides)) (now (s .args .u)))) × (length v′ ≡ length (now (s .args .v)))
 added c =
-    let s = entry (c .before) in
+    let s = entry (at-sides c) in
     let v = now (s .args .v) in
     let u = now (s .args .u) in
     let n = length u in
     let at : ℕ = (s .args .k - 1 - s .args .level) * n in
     let is = part-added at (at + n) n v _ (ofSide (s .args .k) (s .args .level) (now (s .args .sides)) u) refl
     (c .add-where .ensures
-    ∙ ap (λ (z : List ℕ). xorEach (part at (at + n - at) v) (λ i. getD z (i % 4) 0 * getD u i 0)) (c .before .of-four .ensures)) in
+    ∙ ap (λ (z : List ℕ). xorEach (part at (at + n - at) v) (λ i. getD z (i % 4) 0 * getD u i 0)) (at-sides c .of-four .ensures)) in
     (is, ap length is ∙ xorPart-length v at n _ (fits s .0))
 
 mul-nodes-at : tie.Need-mul-nodes-at
@@ -109,13 +112,13 @@ nodes-at-requires c κs = omega arith
 
 walk-requires : tie.Need-walk-requires
 walk-requires c κs =
-    let s = entry (at-mask c .before) in
+    let s = entry (at-sides (at-mask c)) in
     let v = added (at-mask c) in
     (omega (arith, fits s .1, v .1), (s .pre .1 .0, s .pre .1 .1, s .pre .1 .2))
 
 -- the walk: u and v after it
 walked : (c : tie.After-walk)
-    → let s = entry (at-mask (c .before) .before) in
+    → let s = entry (at-sides (at-mask (c .before))) in
     let u = now (s .args .u) in
     let r = s .args .k - 1 - s .args .level in
     let nodes = part (32 * s .args .level) 32 (now (s .args .s)) in
@@ -125,7 +128,7 @@ walked : (c : tie.After-walk)
     × (c .walk .last .1 .1 .1 .1 .0 ≡ xorEach v (columnWord (wordOf (s .args .stream)) (length u) r nodes))
     × (length (c .walk .last .1 .1 .1 .1 .0) ≡ length (now (s .args .v)))
 walked c =
-    let s = entry (at-mask (c .before) .before) in
+    let s = entry (at-sides (at-mask (c .before))) in
     let u = now (s .args .u) in
     let n = length u in
     let r : ℕ = s .args .k - 1 - s .args .level in
@@ -142,15 +145,15 @@ walked c =
 
 -- column r is inside it, and u is as long as it was
 inside : (c : tie.After-walk)
-    → let s = entry (at-mask (c .before) .before) in
+    → let s = entry (at-sides (at-mask (c .before))) in
     let n = length (now (s .args .u)) in
     ((s .args .k - 1 - s .args .level) * n + n ≤ length (c .walk .last .1 .1 .1 .1 .0)) × (length (c .walk .last .1 .1 .1 .0) ≡ n)
 inside c =
     let w = walked c in
-    (omega (arith, w .3, fits (entry (at-mask (c .before) .before)) .0), w .1)
+    (omega (arith, w .3, fits (entry (at-sides (at-mask (c .before)))) .0), w .1)
 
 mul-add-where-2 : tie.Need-mul-add-where-2
-mul-add-where-2 c = omega (arith, fits (entry (at-mask (c .before .before .before .before .before) .before)))
+mul-add-where-2 c = omega (arith, fits (entry (at-sides (at-mask (c .before .before .before .before .before)))))
 
 sub-add-where-2 : tie.Need-sub-add-where-2
 sub-add-where-2 c = omega arith
@@ -163,7 +166,7 @@ part-add-where-end-2 c = omega (arith, inside (c .before .before .before .before
 
 add-where-requires-2 : tie.Need-add-where-requires-2
 add-where-requires-2 c κs =
-    let s = entry (at-mask (at-walk c .before) .before) in
+    let s = entry (at-sides (at-mask (at-walk c .before))) in
     let n = length (now (s .args .u)) in
     let at : ℕ = (s .args .k - 1 - s .args .level) * n in
     let here = inside (at-walk c) in
@@ -178,7 +181,7 @@ same-length-2 c = omega arith
 
 returns : tie.Need-returns
 returns c =
-    let s = entry (at-mask (at-walk (c .before .before .before) .before) .before) in
+    let s = entry (at-sides (at-mask (at-walk (c .before .before .before) .before))) in
     let w = walked (at-walk (c .before .before .before)) in
     let n = length (now (s .args .u)) in
     let at : ℕ = (s .args .k - 1 - s .args .level) * n in
@@ -198,11 +201,11 @@ add-level-spec =
     sub-r-2
     mul-at
     add-end
+    of-four-requires
     mul-add-where
     sub-add-where
     part-add-where-start
     part-add-where-end
-    of-four-requires
     add-where-requires
     mul-nodes-at
     nodes-at-requires
