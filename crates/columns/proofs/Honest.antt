@@ -16,7 +16,7 @@ use Rattle.words.proofs.Lists.{tabulate-at, xorEach-at, xorEach-is, scale-at}
 use Rattle.words.proofs.Concat.{concat-length, concat-part}
 use Rattle.tree.specs.Tree.{sumBelow}
 use Rattle.tree.specs.Path.{siblingNode, siblingNumber}
-use Rattle.tree.specs.Columns.{uAt, receiverAt}
+use Rattle.tree.specs.Columns.{uAt, receiverAt, senderAt}
 use Rattle.tree.specs.Layout.{rootOf, deltaOf, treePart, columnOf}
 use Rattle.tree.proofs.Path.{sibling-length}
 use Rattle.tree.proofs.Columns.{sender-beside, column-identity}
@@ -25,24 +25,24 @@ use Rattle.columns.proofs.Tables.{uOf-length, receiverColumn-length, se
 
 -- ---- one tree
 
--- the siblings one after the other give the sender's first column, so the receiver's ⊕ d's bit times u
-beside-honest : (k : ℕ) (root : List ℕ) (d : ℕ) (f : ℕ → List ℕ → ℕ) (b : ℕ) → d < 2 ^ k
-    → besideAt k (concat k (siblingNode k root d)) d f b ≡ receiverAt k root f b ⊕ bitOf d b * uAt k root f
+-- where the siblings are the nodes beside the path of d, the sum below them is paper 01's own: over the leaves other than d
+pub beside-is : (k : ℕ) (root : List ℕ) (d : ℕ) (f : ℕ → List ℕ → ℕ) (b : ℕ) → d < 2 ^ k
+    → besideAt k (concat k (siblingNode k root d)) d f b ≡ senderAt k root d f b
 unfolding besideAt
-beside-honest k root d f b h =
+beside-is k root d f b h =
     sumTo-same k (λ l. below (part (32 * l) 32 (concat k (siblingNode k root d))) l) (λ l. below (siblingNode k root d l) l)
     (λ l lt.
     ap (λ (m : List ℕ). below m l)
     (ap (λ (a : ℕ). part a 32 (concat k (siblingNode k root d))) (mul-comm 32 l)
     ∙ concat-part (siblingNode k root d) 32 k (λ l h. sibling-length k root d l) l lt))
     ∙ sym (sender-beside k root d f b h)
-    ∙ column-identity k root d f b
   where
     -- what the sender counts below a node of level l
     below : List ℕ → ℕ → ℕ
     below m l = sumBelow (k - 1 - l) m (siblingNumber k d l) (λ y leaf. bitOf (y ⊕ d) b * f y leaf)
 
--- so, where u ⊕ the tree's correction is some column, the sender's column is the receiver's ⊕ d's bit times that column
+-- by the small-field identity that is the receiver's ⊕ d's bit times u. So, where u ⊕ the tree's correction is some column, the sender's
+-- column is the receiver's ⊕ d's bit times that column
 pub sender-column : (k : ℕ) (stream : ℕ → List ℕ → ℕ) (len : ℕ) (root : List ℕ) (d : ℕ) (correction column : List ℕ) (b : ℕ) → d < 2 ^ k
     → ((x : ℕ) → x < len → uAt k root (λ y leaf. stream x leaf) ⊕ getD correction x 0 ≡ getD column x 0)
     → senderColumn k stream len (concat k (siblingNode k root d)) d correction b
@@ -66,7 +66,7 @@ sender-column k stream len root d correction column b h meets =
         let u : ℕ = uAt k root (λ y leaf. stream x leaf) in
         let c : ℕ = getD correction x 0 in
         tabulate-at len _ x lt
-        ∙ ap (λ (z : ℕ). z ⊕ p * c) (beside-honest k root d (λ y leaf. stream x leaf) b h)
+        ∙ ap (λ (z : ℕ). z ⊕ p * c) (beside-is k root d (λ y leaf. stream x leaf) b h ∙ column-identity k root d (λ y leaf. stream x leaf) b)
         ∙ xor-assoc received (p * u) (p * c)
         ∙ ap (bitXor received)
         (sym (scale-xor p u c (bit-lt d b))

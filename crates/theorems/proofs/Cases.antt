@@ -4,7 +4,8 @@ use mathlib.Core.Logic.{⊎-elim}
 use mathlib.Core.List.{List, [], _∷_, List·Memᴰ, List·Memᴰ·not-nil, List·Memᴰ·cases-cons}
 use Rattle.words.specs.Bytes.{tabulate}
 use Rattle.words.specs.Bits.{ofBits}
-use Rattle.words.specs.Xor.{xorEach, scale}
+use Rattle.words.specs.Xor.{xorEach, scale, sumTo}
+use Rattle.columns.specs.Columns.{besideAt}
 use Rattle.gf64.specs.Field.{timesX, timesLow, foldFrom, words64}
 use Rattle.tree.specs.Tree.{sumBelow}
 use Rattle.tree.specs.Path.{pathNumber}
@@ -22,7 +23,7 @@ each (x ∷ rs) h r m =
 
 -- every row: the rules give its result
 pub cases-hold : (r : Row) → List·Memᴰ r table → gives (r .case) ≡ r .result
-unfolding table gives timesX timesLow foldFrom words64 xorEach scale tabulate ofBits sumBelow pathNumber
+unfolding table gives besideAt sumTo timesX timesLow foldFrom words64 xorEach scale tabulate ofBits sumBelow pathNumber
 cases-hold =
     each table
     (refl, (refl, (refl, (refl, (refl, (refl, (refl, (refl, (refl, (refl, (refl, (refl, (refl, (refl, (refl, (refl, tt))))))))))))))))

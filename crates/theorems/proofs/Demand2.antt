@@ -17,13 +17,13 @@ use Rattle.words.proofs.Lists.{xorEach-cancel, xorEach-zero, zeros-at, scale-ze
 use Rattle.words.proofs.Concat.{concat-part, part-part}
 use Rattle.answer.specs.declared.Answer.{Answer}
 use Rattle.answer.specs.declared.Answer.the-variants.{Done, Check}
-use Rattle.answer.specs.Answer.{whenDone, Order}
+use Rattle.answer.specs.Answer.{whenDone, Order, firstOf}
 use Rattle.answer.proofs.Order.{AllHold, hold-more, done-when, last-decides}
 use Rattle.sizes.specs.Sizes.{widthAllowed, columns, treesOf, columnLength, deltaLength, rootsLength, siblingsLength, tableLength, correctionLength, checkMessageLength, receiverPadsLength, senderPadsLength}
 use Rattle.sizes.proofs.Widths.{Fits, width-fits}
 use Rattle.tree.specs.Tree.{streamByte}
 use Rattle.tree.proofs.Streams.{stream-lt}
-use Rattle.setup.specs.Setup.{senderBasePads, besidePaths, ReceiverSetup, SenderSetup}
+use Rattle.setup.specs.Setup.{messageOf, senderBasePads, besidePaths, ReceiverSetup, SenderSetup}
 use Rattle.columns.specs.Columns.{choicesOf, receiverTable, correctionOf, treeCorrection, senderTable}
 use Rattle.columns.proofs.Tables.{uOf-length, correctionOf-length, receiverTable-length, senderTable-length}
 use Rattle.rows.specs.Row.{rowOf}
@@ -32,12 +32,12 @@ use Rattle.pads.proofs.Inputs.{pad-length}
 use Rattle.consistency.specs.Message.{checkMessage, accepts}
 use Rattle.consistency.proofs.MessageLaws.{message-length}
 use Rattle.rules.specs.declared.Record.{Record}
-use Rattle.rules.specs.Orders.{stageReady, stageOpen, withBatch, withoutBatch, has, batchOrder, endOrder, beforeCheck}
+use Rattle.rules.specs.Orders.{stageReady, stageOpen, withBatch, withoutBatch, has, batchOrder, endOrder, correctOrder, beforeCheck}
 use Rattle.rules.proofs.Allowed.{blocks-allowed, batch-follows}
-use Rattle.session.specs.Steps.{SenderCorrect}
+use Rattle.session.specs.Steps.{SenderCorrect, SenderVerify}
 use Rattle.errors.specs.Errors.{Sent}
 use Rattle.theorems.specs.Demand2.{Ready, HonestBatch, ended, Demand2}
-use Rattle.theorems.specs.Demand3.{Run, Accepts, Closes}
+use Rattle.theorems.specs.Demand3.{Run, Unrefused, Accepts, Closes}
 use Rattle.theorems.proofs.Setup.{siblings-are, both-done}
 use Rattle.theorems.proofs.Batch.{honest-rows}
 use Rattle.columns.proofs.Bounds.{correctionOf-bytes}
@@ -85,13 +85,13 @@ got : {A : Type 0} (a : Answer) (new old : A) → a ≡ Done → whenDone a new 
 got a new old e = ap (λ (x : Answer). whenDone x new old) e
 
 -- a session with an open batch
-record Opened (r : Record) (width batch blocks : ℕ) : Type 0 where
-  wide : r .width ≡ width
-  last-is : r .last ≡ batch
-  blocks-are : r .blocks ≡ blocks
-  open-now : r .stage ≡ stageOpen
+pub record Opened (r : Record) (width batch blocks : ℕ) : Type 0 where
+  pub wide : r .width ≡ width
+  pub last-is : r .last ≡ batch
+  pub blocks-are : r .blocks ≡ blocks
+  pub open-now : r .stage ≡ stageOpen
 
-opens : (r r₁ : Record) (width batch blocks : ℕ) → Ready r width → r₁ ≡ withBatch r batch blocks → Opened r₁ width batch blocks
+pub opens : (r r₁ : Record) (width batch blocks : ℕ) → Ready r width → r₁ ≡ withBatch r batch blocks → Opened r₁ width batch blocks
 opens r r₁ width batch blocks ready e = record {
   wide = ap (λ (x : Record). x .width) e ∙ ready .wide;
   last-is = ap (λ (x : Record). x .last) e;
@@ -124,6 +124,38 @@ four-named : (cs : Order) (a a′ b b′ c c′ d d′ : ℕ) → AllHold cs →
 four-named cs a a′ b b′ c c′ d d′ h p q r s =
     hold-more cs (has a a′ ∷ has b b′ ∷ has c c′ ∷ has d d′ ∷ []) h (eq-eqb a a′ p, (eq-eqb b b′ q, (eq-eqb c c′ r, (eq-eqb d d′ s, tt))))
 
+-- so the sender's correction is done where a batch may be opened and the lengths are those named
+pub correct-allowed : (q : Record) (width batch blocks siblings delta correction table : ℕ) → Ready q width → widthAllowed width ≡ true → q .last < batch
+    → 1 ≤ blocks → blocks ≤ 15 → siblings ≡ siblingsLength → delta ≡ deltaLength → correction ≡ correctionLength width blocks → table ≡ tableLength blocks
+    → firstOf (correctOrder q batch blocks siblings delta correction table) ≡ Done
+correct-allowed q width batch blocks siblings delta correction table ready allowed next low high s d c t =
+    done-when _
+    (four-named (batchOrder q batch blocks) siblings siblingsLength delta deltaLength correction (correctionLength (q .width) blocks) table (tableLength blocks)
+    (open-batch q width batch blocks ready allowed next low high) s d (c ∙ ap (λ (w : ℕ). correctionLength w blocks) (sym (ready .wide))) t)
+
+-- and nothing before the verify's check is refused where an open batch may be ended and the lengths are those named
+pub verify-allowed : (q : Record) (width batch blocks table delta message pads : ℕ) → Opened q width batch blocks → widthAllowed width ≡ true → 0 < batch
+    → 1 ≤ blocks → blocks ≤ 15 → table ≡ tableLength blocks → delta ≡ deltaLength → message ≡ checkMessageLength → pads ≡ senderPadsLength blocks
+    → AllHold (beforeCheck q table delta message pads)
+verify-allowed q width batch blocks table delta message pads opened allowed some low high t d m p =
+    let same : blocks ≡ q .blocks = sym (opened .blocks-are) in
+    four-named (endOrder q) table (tableLength (q .blocks)) delta deltaLength message checkMessageLength pads (senderPadsLength (q .blocks))
+    (end-batch q width batch blocks opened allowed some low high) (t ∙ ap tableLength same) d m (p ∙ ap senderPadsLength same)
+
+-- there the check decides
+pub check-decides : (q : Record) (key : ℕ) (table delta message pads pads′ : List ℕ) (answer : Answer) (q′ : Record)
+    → SenderVerify q key table delta message pads answer q′ pads′
+    → AllHold (beforeCheck q (length table) (length delta) (length message) (length pads)) → Unrefused answer
+check-decides q key table delta message pads pads′ answer q′ verified hold =
+    either-way verdict (verified .answered ∙ last-decides (beforeCheck q (length table) (length delta) (length message) (length pads)) verdict Check hold)
+  where
+    verdict : Bool
+    verdict = accepts columns (columnLength (q .blocks)) key table delta message
+
+    either-way : (x : Bool) → answer ≡ cond x Done Check → Unrefused answer
+    either-way true e = inl e
+    either-way false e = inr e
+
 ended-is : (r : Record) (width batch blocks : ℕ) → Opened r width batch blocks → withoutBatch r ≡ ended width batch
 ended-is r width batch blocks opened =
     ap₂ (λ (w l : ℕ). record { width = w; last = l; blocks = 0; stage = stageReady }) (opened .wide) (opened .last-is)
@@ -151,6 +183,9 @@ module _ (h : HonestBatch) where
       both-done k (h .roots) (h .basePads) (h .setupMessage) (h .setupMessage′) (h .delta) (h .siblings) (h .siblings′) (h .a₁) (h .a₂)
       (h .receiver-setup) (h .sender-setup) (h .width-allowed) (h .roots-length) (h .base-pads-length) (h .setup-message-length)
       (h .delta-length) (h .siblings-length)
+
+  setup-message : h .setupMessage′ ≡ messageOf n k (h .roots) (h .basePads)
+  setup-message = h .receiver-setup .written ∙ got (h .a₁) _ _ (setups .0)
 
   siblings-is : h .siblings′ ≡ besidePaths n k (h .delta) (h .roots)
   siblings-is =
@@ -184,18 +219,19 @@ module _ (h : HonestBatch) where
   -- the sender's correction
   correct-done : h .a₄ ≡ Done
   correct-done =
-      let wide = h .sender-ready .wide in
       h .sender-correct .answered
-      ∙ done-when _
-      (four-named (batchOrder (h .q) (h .batch) (h .blocks)) _ siblingsLength _ deltaLength _ (correctionLength (h .q .width) (h .blocks)) _ (tableLength (h .blocks))
-      (open-batch (h .q) k (h .batch) (h .blocks) (h .sender-ready) (h .width-allowed) (h .sender-next) (h .some-blocks) (h .few-blocks))
+      ∙ correct-allowed (h .q) k (h .batch) (h .blocks) _ _ _ _ (h .sender-ready) (h .width-allowed) (h .sender-next) (h .some-blocks) (h .few-blocks)
       (ap length siblings-is ∙ besidePaths-length n k (h .delta) (h .roots) ∙ width .single) (h .delta-length)
-      (ap length correction-is ∙ correctionOf-length n k stream len (h .roots) ∙ ap (λ (w : ℕ). correctionLength w (h .blocks)) (sym wide)) (h .w-length))
+      (ap length correction-is ∙ correctionOf-length n k stream len (h .roots)) (h .w-length)
+
+  w-filled : h .w′ ≡ senderTable n k stream len (h .siblings′) (h .delta) (treeCorrection len (h .correction′))
+  w-filled =
+      h .sender-correct .filled ∙ got (h .a₄) _ _ correct-done
+      ∙ ap (λ (w : ℕ). senderTable (treesOf w) w stream len (h .siblings′) (h .delta) (treeCorrection len (h .correction′))) (h .sender-ready .wide)
 
   w-is : h .w′ ≡ senderTable n k stream len (besidePaths n k (h .delta) (h .roots)) (h .delta) (treeCorrection len (correctionOf n k stream len (h .roots)))
   w-is =
-      h .sender-correct .filled ∙ got (h .a₄) _ _ correct-done
-      ∙ ap (λ (w : ℕ). senderTable (treesOf w) w stream len (h .siblings′) (h .delta) (treeCorrection len (h .correction′))) (h .sender-ready .wide)
+      w-filled
       ∙ ap₂ (λ (s c : List ℕ). senderTable n k stream len s (h .delta) (treeCorrection len c)) siblings-is correction-is
 
   sender-opened : Opened (h .q₁) k (h .batch) (h .blocks)
@@ -217,38 +253,31 @@ module _ (h : HonestBatch) where
       (ap length v-is ∙ receiverTable-length n k stream len (h .roots) ∙ ap (λ (c : ℕ). c * len) (width .columns) ∙ ap tableLength same)
       (h .message-length) (h .pads-length ∙ ap receiverPadsLength same))
 
-  message-is : h .message′ ≡ checkMessage columns len (h .key) (choicesOf k stream len (h .roots)) (receiverTable n k stream len (h .roots))
-  message-is =
+  message-told : h .message′ ≡ checkMessage columns len (h .key) (h .choices′) (h .v′)
+  message-told =
       h .receiver-answer .told ∙ got (h .a₅) _ _ answer-done
       ∙ ap (λ (n : ℕ). checkMessage columns (columnLength n) (h .key) (h .choices′) (h .v′)) (receiver-opened .blocks-are)
+
+  message-is : h .message′ ≡ checkMessage columns len (h .key) (choicesOf k stream len (h .roots)) (receiverTable n k stream len (h .roots))
+  message-is =
+      message-told
       ∙ ap₂ (checkMessage columns len (h .key)) choices-is v-is
+
+  pads-given : h .pads′ ≡ receiverPads columns (h .blocks) (h .batch) (h .v′)
+  pads-given =
+      h .receiver-answer .padded ∙ got (h .a₅) _ _ answer-done
+      ∙ ap₂ (λ (blocks batch : ℕ). receiverPads columns blocks batch (h .v′)) (receiver-opened .blocks-are) (receiver-opened .last-is)
 
   -- the sender's verify: what it was sent is honest, so by demand 3 it accepts
   abbrev sent : Sent
   sent = record { roots = h .roots; width = k; batch = h .batch; blocks = h .blocks; correction = h .correction′; message = h .message′; key = h .key }
 
-  unrefused : (h .a₆ ≡ Done) ⊎ (h .a₆ ≡ Check)
-  unrefused = either-way verdict (h .sender-verify .answered ∙ last-decides asked verdict Check ends)
-    where
-      verdict : Bool
-      verdict = accepts columns (columnLength (h .q₁ .blocks)) (h .key) (h .w′) (h .delta) (h .message′)
-
-      asked : Order
-      asked = beforeCheck (h .q₁) (length (h .w′)) (length (h .delta)) (length (h .message′)) (length (h .bothPads))
-
-      same : h .blocks ≡ h .q₁ .blocks
-      same = sym (sender-opened .blocks-are)
-
-      ends : AllHold asked
-      ends =
-          four-named (endOrder (h .q₁)) _ (tableLength (h .q₁ .blocks)) _ deltaLength _ checkMessageLength _ (senderPadsLength (h .q₁ .blocks))
-          (end-batch (h .q₁) k (h .batch) (h .blocks) sender-opened (h .width-allowed) later (h .some-blocks) (h .few-blocks))
-          (ap length w-is ∙ senderTable-length n k stream len _ (h .delta) _ ∙ ap (λ (c : ℕ). c * len) (width .columns) ∙ ap tableLength same) (h .delta-length)
-          (ap length message-is ∙ message-length columns len (h .key) _ _) (h .both-pads-length ∙ ap senderPadsLength same)
-
-      either-way : (x : Bool) → h .a₆ ≡ cond x Done Check → (h .a₆ ≡ Done) ⊎ (h .a₆ ≡ Check)
-      either-way true e = inl e
-      either-way false e = inr e
+  unrefused : Unrefused (h .a₆)
+  unrefused =
+      check-decides (h .q₁) (h .key) (h .w′) (h .delta) (h .message′) (h .bothPads) (h .bothPads′) (h .a₆) (h .q₂) (h .sender-verify)
+      (verify-allowed (h .q₁) k (h .batch) (h .blocks) _ _ _ _ sender-opened (h .width-allowed) later (h .some-blocks) (h .few-blocks)
+      (ap length w-is ∙ senderTable-length n k stream len _ (h .delta) _ ∙ ap (λ (c : ℕ). c * len) (width .columns)) (h .delta-length)
+      (ap length message-is ∙ message-length columns len (h .key) _ _) (h .both-pads-length))
 
   abbrev run : Run sent (h .delta)
   run = record {
@@ -271,16 +300,18 @@ module _ (h : HonestBatch) where
     same-width = h .sender-ready .wide;
     sender-correct = subst (λ (a : Answer). SenderCorrect (h .q) (h .siblings′) (h .delta) (h .batch) (h .blocks) (h .correction′) (h .w) a (h .q₁) (h .w′)) correct-done (h .sender-correct);
     sender-verify = h .sender-verify;
-    unrefused = unrefused;
     bytes = λ i. rw (ap (λ (l : List ℕ). getD l i 0) correction-is) (correctionOf-bytes stream (stream-lt (h .batch)) n k len (h .roots) i);
   }
 
   accepted : Accepts sent (h .delta) run
-  accepted = by-verdict (demand3 sent .verdict (h .delta) run)
+  accepted = by-verdict (demand3 sent .verdict (h .delta) run unrefused)
     where
       by-verdict : Accepts sent (h .delta) run ⊎ Closes sent (h .delta) run → Accepts sent (h .delta) run
       by-verdict (inl x) = x
       by-verdict (inr x) = absurd (x .differ (all-meet sent (h .key-fits) correction-is message-is (h .delta)))
+
+  both-pads-given : h .bothPads′ ≡ senderPads columns (h .blocks) (h .batch) (h .w′) (h .delta)
+  both-pads-given = accepted .padded ∙ ap (λ (batch : ℕ). senderPads columns (h .blocks) batch (h .w′) (h .delta)) (sender-opened .last-is)
 
   row-relation : (j : ℕ) → rowOf columns len (h .w′) j ≡ xorList (rowOf columns len (h .v′) j) (scale (bitAt (h .choices′) j) (h .delta))
   row-relation j =
@@ -296,14 +327,11 @@ module _ (h : HonestBatch) where
   agree j lt =
       let x : ℕ = bitAt (h .choices′) j in
       let d : List ℕ = scale x (h .delta) in
-      ap (part (32 * j) 32)
-      (h .receiver-answer .padded ∙ got (h .a₅) _ _ answer-done
-      ∙ ap₂ (λ (blocks batch : ℕ). receiverPads columns blocks batch (h .v′)) (receiver-opened .blocks-are) (receiver-opened .last-is))
+      ap (part (32 * j) 32) pads-given
       ∙ own-pad (h .blocks) (h .batch) j (h .v′) lt
       ∙ ap (padOf (h .batch) j) (sym (ap (λ (r : List ℕ). xorList r d) (row-relation j) ∙ xorEach-cancel (rowOf columns len (h .v′) j) (λ i. getD d i 0)))
       ∙ sym (given-pad (h .blocks) (h .batch) j x (h .w′) (h .delta) lt (bit-lt _ _))
-      ∙ ap (part (64 * j + 32 * x) 32)
-      (sym (accepted .padded ∙ ap (λ (batch : ℕ). senderPads columns (h .blocks) batch (h .w′) (h .delta)) (sender-opened .last-is)))
+      ∙ ap (part (64 * j + 32 * x) 32) (sym both-pads-given)
 
 pub demand2 : (h : HonestBatch) → Demand2 h
 demand2 h = record {
@@ -313,6 +341,15 @@ demand2 h = record {
     h .receiver-answer .recorded ∙ got (h .a₅) _ _ (answer-done h) ∙ ended-is (h .r₁) (h .width) (h .batch) (h .blocks) (receiver-opened h),
     accepted h .recorded ∙ ended-is (h .q₁) (h .width) (h .batch) (h .blocks) (sender-opened h),
   );
+  setup-message-is = setup-message h;
+  siblings-are = siblings-is h;
+  choices-are = choices-is h;
+  v-is = v-is h;
+  correction-is = correction-is h;
+  w-is = w-filled h;
+  message-is = message-told h;
+  pads-are = pads-given h;
+  both-pads-are = both-pads-given h;
   rows = λ j lt. row-relation h j;
   pads-agree = agree h;
 }

@@ -31,7 +31,7 @@ use Rattle.pads.specs.Pads.{senderPads}
 use Rattle.rules.specs.Orders.{withoutBatch, closed, beforeCheck}
 use Rattle.rules.proofs.Fits.{correct-fits, verify-fits}
 use Rattle.errors.specs.Errors.{Sent, lengthOf, columnError, foldedError}
-use Rattle.theorems.specs.Demand3.{Run, SidesEqual, ErrorsMeet, EveryColumn, TreePasses, Accepts, Closes, Demand3}
+use Rattle.theorems.specs.Demand3.{Run, Unrefused, SidesEqual, ErrorsMeet, EveryColumn, TreePasses, Accepts, Closes, Demand3}
 use Rattle.theorems.proofs.Setup.{siblings-are}
 use Rattle.errors.proofs.Column.{column-law}
 
@@ -41,7 +41,7 @@ use Rattle.errors.proofs.Column.{column-law}
 abbrev refusal : Answer → Bool
 refusal a = not (isDone a) && not (eqb (number a) (number Check))
 
-unrefused-is : (a : Answer) → (a ≡ Done) ⊎ (a ≡ Check) → refusal a ≡ false
+unrefused-is : (a : Answer) → Unrefused a → refusal a ≡ false
 unrefused-is a (inl e) = ap refusal e
 unrefused-is a (inr e) = ap refusal e
 
@@ -110,18 +110,17 @@ module _ (s : Sent) (delta : List ℕ) (run : Run s delta) where
         ∙ ap (λ (x : Answer). whenDone x (senderPads columns (run .q .blocks) (run .q .last) (run .table′) delta) (run .pads)) a;
   }
 
-  -- the conditions before the check hold, since none of them was answered; so the check decides
+  -- where none of the conditions before the check was answered, they hold; so the check decides
   abbrev asked : Order
   asked = beforeCheck (run .q) (length (run .table′)) (length delta) (length (s .message)) (length (run .pads))
 
   abbrev verdict : Bool
   verdict = accepts columns (columnLength (run .q .blocks)) (s .key) (run .table′) delta (s .message)
 
-  hold : AllHold asked
-  hold = reached refusal asked ((verdict, Check) ∷ []) refl (ap refusal (sym (run .sender-verify .answered)) ∙ unrefused-is (run .answer) (run .unrefused))
-
-  decides : Accepts s delta run ⊎ Closes s delta run
-  decides =
+  decides : Unrefused (run .answer) → Accepts s delta run ⊎ Closes s delta run
+  decides unrefused =
+      let hold : AllHold asked =
+      reached refusal asked ((verdict, Check) ∷ []) refl (ap refusal (sym (run .sender-verify .answered)) ∙ unrefused-is (run .answer) unrefused) in
       let same = same-blocks (run .q .blocks) (verify-fits (run .q) (length (run .table′)) (length delta) (length (s .message)) (length (run .pads)) hold .table-long) in
       decided verdict (ap (λ (blocks : ℕ). accepts columns (columnLength blocks) (s .key) (run .table′) delta (s .message)) (sym same))
       (run .sender-verify .answered ∙ last-decides asked verdict Check hold) same
@@ -135,7 +134,8 @@ module _ (s : Sent) (delta : List ℕ) (run : Run s delta) where
 
 -- ---- two runs
 
-bit-found : (p q e : ℕ) → p < 2 → q < 2 → e ≢ 0 → p * e ≡ q * e → p ≡ q
+-- a bit is found from its product with a number that isn't 0
+pub bit-found : (p q e : ℕ) → p < 2 → q < 2 → e ≢ 0 → p * e ≡ q * e → p ≡ q
 bit-found p q e hp hq ne =
     digit (λ (p : ℕ). p * e ≡ q * e → p ≡ q)
     (digit (λ (q : ℕ). 0 * e ≡ q * e → 0 ≡ q) (λ z. refl) (λ z. absurd (ne (sym (one-mul e) ∙ sym z ∙ zero-mul e))) q hq)

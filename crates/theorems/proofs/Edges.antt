@@ -1,9 +1,9 @@
--- The edge cases of paper 01, 'Edges', that are no rows of the table of cases. Assumes nothing.
+-- The sizes and edge cases of paper 01 that are no rows of the table of cases. Assumes nothing.
 use mathlib.Core.Path.{_≡_, refl, sym, ap, _∙_}
-use mathlib.Core.Bool.{Bool, true, false, _&&_}
+use mathlib.Core.Bool.{Bool, true, false, not, _&&_}
 use mathlib.Core.List.{List, [], _∷_, _++_}
 use mathlib.Core.Logic.{_⊎_, inl, inr}
-use Prim.Native.Nat.{ℕ, _+_, _*_, _^_, _<_}
+use Prim.Native.Nat.{ℕ, _+_, _*_, _/_, _^_, _<_}
 use native.Mathlib.Omega.{arith}
 use lib.Dec.{eqb, ltb}
 use lib.ListN.{replicate}
@@ -11,29 +11,82 @@ use borrow.Author.Tests.{eq-eqb, lt-ltb, le-ltb}
 use Rattle.words.specs.Bytes.{part}
 use Rattle.words.specs.Xor.{xorList}
 use Rattle.words.proofs.Lists.{scale-zero, scale-one}
-use Rattle.sizes.specs.Sizes.{widthAllowed, columns, columnLength, deltaLength, receiverBasePadsLength, senderBasePadsLength, setupMessageLength, siblingsLength, tableLength, correctionLength, checkMessageLength, receiverPadsLength, senderPadsLength}
-use Rattle.answer.specs.declared.Answer.the-variants.{Width, Stage, Batch, Blocks}
-use Rattle.answer.specs.Answer.{Order, firstOf}
-use Rattle.answer.proofs.Order.{refused-at}
+use Rattle.sizes.specs.Sizes.{widthAllowed, columns, columnLength, correctionLength}
+use Rattle.answer.specs.declared.Answer.{Answer}
+use Rattle.answer.specs.declared.Answer.the-variants.{Done, Width, Stage, Batch, Blocks, Check}
+use Rattle.answer.specs.Answer.{isDone, Order, firstOf}
+use Rattle.answer.proofs.Order.{refused-at, reached}
 use Rattle.rows.specs.Row.{rowOf}
 use Rattle.pads.specs.Pads.{padOf, senderPads}
 use Rattle.rules.specs.declared.Record.{Record}
 use Rattle.rules.specs.Orders.{stageReady, stageOpen, blocksAllowed, batchFollows, receiverSetupOrder, senderSetupOrder, sessionOrder, batchOrder, endOrder}
+use Rattle.rules.specs.Orders.{startOrder, correctOrder, answerOrder, beforeCheck, verifyOrder}
 use Rattle.rules.proofs.Allowed.{batch-follows}
+use Rattle.rules.proofs.Fits.{start-fits, correct-fits, answer-fits, verify-fits}
+use Rattle.setup.proofs.Answers.{receiver-fits, sender-fits}
 use Rattle.theorems.proofs.Demand2.{given-pad}
 
--- the lengths in numbers: of the setups and of the check message
-pub lengths : (deltaLength ≡ 16) × (receiverBasePadsLength ≡ 8192) × (senderBasePadsLength ≡ 4096) × (setupMessageLength ≡ 8192)
-    × (siblingsLength ≡ 4096) × (checkMessageLength ≡ 1032)
-lengths = (refl, refl, refl, refl, refl, refl)
+-- ---- the sizes: a step that is done was given ranges of paper 01's lengths
 
--- and of both sides' pads: 2,048 × P and 4,096 × P bytes
-pub pads-lengths : (blocks : ℕ) → (receiverPadsLength blocks ≡ 2048 * blocks) × (senderPadsLength blocks ≡ 4096 * blocks)
-pads-lengths blocks = (omega arith, omega arith)
+-- 'Steps and their turning away', in numbers. The setups
+pub receiver-setup-sizes : (width roots pads message : ℕ) → firstOf (receiverSetupOrder width roots pads message) ≡ Done
+    → (roots ≡ 32 * (128 / width)) × (pads ≡ 8192) × (message ≡ 8192)
+receiver-setup-sizes width roots pads message done =
+    let fits = receiver-fits width roots pads message (ap isDone done) in
+    (fits .1, fits .2, fits .3)
 
--- P = 15, k = 1: table 16,384, correction 16,256, the sender's pads 61,440 bytes; P = 1, k = 8: correction 240
-pub sizes : (tableLength 15 ≡ 16384) × (correctionLength 1 15 ≡ 16256) × (senderPadsLength 15 ≡ 61440) × (correctionLength 8 1 ≡ 240)
-sizes = (refl, refl, refl, refl)
+pub sender-setup-sizes : (width delta pads message siblings : ℕ) → firstOf (senderSetupOrder width delta pads message siblings) ≡ Done
+    → (delta ≡ 16) × (pads ≡ 4096) × (message ≡ 8192) × (siblings ≡ 4096)
+sender-setup-sizes width delta pads message siblings done =
+    let fits = sender-fits width delta pads message siblings (ap isDone done) in
+    (fits .1, fits .2, fits .3, fits .4)
+
+-- both sides' ends of a batch of P blocks: the check message 1,032, the pads 2,048 × P and 4,096 × P
+pub answer-sizes : (r : Record) (choices table message pads : ℕ) → firstOf (answerOrder r choices table message pads) ≡ Done
+    → (message ≡ 1032) × (pads ≡ 2048 * r .blocks)
+answer-sizes r choices table message pads done =
+    let told = answer-fits r choices table message pads (ap isDone done) in
+    (told .message-long, omega (arith, told .pads-long))
+
+pub verify-sizes : (r : Record) (table delta message pads : ℕ) (accepted : Bool) → firstOf (verifyOrder r table delta message pads accepted) ≡ Done
+    → (message ≡ 1032) × (pads ≡ 4096 * r .blocks)
+verify-sizes r table delta message pads accepted done =
+    let told =
+    verify-fits r table delta message pads
+    (reached (λ a. not (isDone a)) (beforeCheck r table delta message pads) ((accepted, Check) ∷ []) refl (ap (λ (a : Answer). not (isDone a)) done)) in
+    (told .message-long, omega (arith, told .pads-long))
+
+-- 'Edges': P = 15, k = 1: table 16,384, correction 16,256, the sender's pads 61,440 bytes
+module _ (r : Record) (batch : ℕ) where
+  pub widest-start : (roots choices table correction : ℕ) → r .width ≡ 1 → firstOf (startOrder r batch 15 roots choices table correction) ≡ Done
+      → (table ≡ 16384) × (correction ≡ 16256)
+  widest-start roots choices table correction one done =
+      let told = start-fits r batch 15 roots choices table correction (ap isDone done) in
+      (told .table-long, told .correction-long ∙ ap (λ (k : ℕ). correctionLength k 15) one)
+
+  pub widest-correct : (siblings delta correction table : ℕ) → r .width ≡ 1 → firstOf (correctOrder r batch 15 siblings delta correction table) ≡ Done
+      → (table ≡ 16384) × (correction ≡ 16256)
+  widest-correct siblings delta correction table one done =
+      let told = correct-fits r batch 15 siblings delta correction table (ap isDone done) in
+      (told .table-long, told .correction-long ∙ ap (λ (k : ℕ). correctionLength k 15) one)
+
+  pub widest-verify : (table delta message pads : ℕ) (accepted : Bool) → r .blocks ≡ 15 → firstOf (verifyOrder r table delta message pads accepted) ≡ Done
+      → pads ≡ 61440
+  widest-verify table delta message pads accepted fifteen done =
+      verify-sizes r table delta message pads accepted done .1 ∙ ap (λ (blocks : ℕ). 4096 * blocks) fifteen
+
+  -- P = 1, k = 8: correction 240
+  pub least-start : (roots choices table correction : ℕ) → r .width ≡ 8 → firstOf (startOrder r batch 1 roots choices table correction) ≡ Done
+      → correction ≡ 240
+  least-start roots choices table correction eight done =
+      start-fits r batch 1 roots choices table correction (ap isDone done) .correction-long ∙ ap (λ (k : ℕ). correctionLength k 1) eight
+
+  pub least-correct : (siblings delta correction table : ℕ) → r .width ≡ 8 → firstOf (correctOrder r batch 1 siblings delta correction table) ≡ Done
+      → correction ≡ 240
+  least-correct siblings delta correction table eight done =
+      correct-fits r batch 1 siblings delta correction table (ap isDone done) .correction-long ∙ ap (λ (k : ℕ). correctionLength k 1) eight
+
+-- ---- refusals
 
 -- width 3, with whatever else: 1. Of a session's steps, by its record, whatever is asked after it
 pub width-three : (r : Record) (rest : Order) → r .width ≡ 3

@@ -7,3 +7,4 @@ pub mod Demand3
 pub mod Demand2
 pub mod Ties
 pub mod Edges
+pub mod Witness

@@ -11,7 +11,11 @@ use Rattle.sizes.specs.Sizes.{deltaLength, rootsLength, receiverBasePadsLength,
 use Rattle.sizes.specs.Sizes.{columnLength, tableLength, correctionLength, checkMessageLength, receiverPadsLength, senderPadsLength}
 use Rattle.answer.specs.declared.Answer.{Answer}
 use Rattle.answer.specs.declared.Answer.the-variants.{Done}
-use Rattle.setup.specs.Setup.{senderBasePads, ReceiverSetup, SenderSetup}
+use Rattle.tree.specs.Tree.{streamByte}
+use Rattle.setup.specs.Setup.{messageOf, senderBasePads, besidePaths, ReceiverSetup, SenderSetup}
+use Rattle.columns.specs.Columns.{choicesOf, receiverTable, correctionOf, treeCorrection, senderTable}
+use Rattle.consistency.specs.Message.{checkMessage}
+use Rattle.pads.specs.Pads.{receiverPads, senderPads}
 use Rattle.rows.specs.Row.{rowOf}
 use Rattle.rules.specs.declared.Record.{Record}
 use Rattle.rules.specs.Orders.{stageReady}
@@ -106,6 +110,22 @@ pub record Demand2 (h : HonestBatch) : Type 0 where
   pub setups-done : (h .a₁ ≡ Done) × (h .a₂ ≡ Done)
   pub batch-done : (h .a₃ ≡ Done) × (h .a₄ ≡ Done) × (h .a₅ ≡ Done) × (h .a₆ ≡ Done)
   pub sessions-ready : (h .r₂ ≡ ended (h .width) (h .batch)) × (h .q₂ ≡ ended (h .width) (h .batch))
+  -- the values are paper 01's. The setup message, and the siblings, which are the nodes beside the paths
+  pub setup-message-is : h .setupMessage′ ≡ messageOf (treesOf (h .width)) (h .width) (h .roots) (h .basePads)
+  pub siblings-are : h .siblings′ ≡ besidePaths (treesOf (h .width)) (h .width) (h .delta) (h .roots)
+  -- of the streams under this batch's number: the choices, V and the correction, and W from it
+  pub choices-are : h .choices′ ≡ choicesOf (h .width) (streamByte (h .batch)) (columnLength (h .blocks)) (h .roots)
+  pub v-is : h .v′ ≡ receiverTable (treesOf (h .width)) (h .width) (streamByte (h .batch)) (columnLength (h .blocks)) (h .roots)
+  pub correction-is : h .correction′
+      ≡ correctionOf (treesOf (h .width)) (h .width) (streamByte (h .batch)) (columnLength (h .blocks)) (h .roots)
+  pub w-is : h .w′
+      ≡ senderTable (treesOf (h .width)) (h .width) (streamByte (h .batch)) (columnLength (h .blocks)) (h .siblings′) (h .delta)
+      (treeCorrection (columnLength (h .blocks)) (h .correction′))
+  -- the check message under the key, and both sides' pads under this batch's number
+  pub message-is : h .message′ ≡ checkMessage columns (columnLength (h .blocks)) (h .key) (h .choices′) (h .v′)
+  pub pads-are : h .pads′ ≡ receiverPads columns (h .blocks) (h .batch) (h .v′)
+  pub both-pads-are : h .bothPads′ ≡ senderPads columns (h .blocks) (h .batch) (h .w′) (h .delta)
+  -- and they agree:
   -- each row of the sender, those of the spent block too, is the receiver's row, with delta added where the choice bit is 1
   pub rows : (j : ℕ) → j < 64 * (h .blocks + 1)
       → rowOf columns (columnLength (h .blocks)) (h .w′) j

@@ -42,11 +42,14 @@ pub record Run (s : Sent) (delta : Range) : Type 0 where
   -- the sender's correction is done, on its siblings, the same secret, and a record of that width
   pub same-width : r .width ≡ s .width
   pub sender-correct : SenderCorrect r siblings′ delta (s .batch) (s .blocks) (s .correction) table Done r′ table′
-  -- the verify is called on that table and the same secret, and gives none of the refusals 1 to 5
+  -- the verify is called on that table and the same secret, whatever it answers
   pub sender-verify : SenderVerify q (s .key) table′ delta (s .message) pads answer q′ pads′
-  pub unrefused : (answer ≡ Done) ⊎ (answer ≡ Check)
   -- the correction is a range of bytes
   pub bytes : Bytes (s .correction)
+
+-- the verify gave none of the refusals 1 to 5
+abbrev pub Unrefused : Answer → Type 0
+Unrefused answer = (answer ≡ Done) ⊎ (answer ≡ Check)
 
 -- the two sides of the check are equal in column c
 abbrev pub SidesEqual : (s : Sent) (delta table : Range) (c : ℕ) → Type 0
@@ -81,8 +84,8 @@ pub record Closes (s : Sent) (delta : Range) (run : Run s delta) : Type 0 where
 pub record Demand3 (s : Sent) : Type 0 where
   -- in every column, the two sides are equal exactly when the errors meet
   pub columns-law : (delta : Range) (run : Run s delta) → EveryColumn (λ c. SidesEqual s delta (run .table′) c ↔ ErrorsMeet s delta c)
-  -- the sender accepts where they meet in every column, and closes where they don't
-  pub verdict : (delta : Range) (run : Run s delta) → Accepts s delta run ⊎ Closes s delta run
+  -- with nothing else refused, the sender accepts where they meet in every column, and closes where they don't
+  pub verdict : (delta : Range) (run : Run s delta) → Unrefused (run .answer) → Accepts s delta run ⊎ Closes s delta run
   -- a tree whose folded error isn't 0 passes for at most one value of its secret bits
   pub at-most-one : (delta delta₂ : Range) (run : Run s delta) (run₂ : Run s delta₂) (i : ℕ) → i < treesOf (s .width) → foldedError s i ≢ 0
       → TreePasses s delta (run .table′) i → TreePasses s delta₂ (run₂ .table′) i
