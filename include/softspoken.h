@@ -44,8 +44,8 @@
    STORE AND WIPE. Store the record after each step that is done, before you send what the step wrote. Store with it
    what the rest of the batch needs: what the step wrote, and at the sender the key, before it is sent. A record that is
    set back lets a batch run twice: the sender may then learn choices, or a cheating receiver may guess again. Wipe the
-   base pads after the setup. Wipe choices and tables after the batch, and pads once they are used. Wipe roots, delta
-   and siblings when you give the setup up.
+   base pads after the setup, tables after the batch, choices and pads once the transfers are used, and roots, delta and
+   siblings when you give the setup up.
 
    TO TEST A HOST on a failed check, change one byte of the check message: message[8 + 8 * c], for one c from 0 to 127.
    With nothing else changed this is refused for every delta. Don't change the correction: one wrong bit in one tree's
