@@ -13,7 +13,7 @@ import sizes
 
 ROOT = pathlib.Path(__file__).resolve().parent.parent
 README, THEOREMS = ROOT / "README.md", ROOT / "docs/THEOREMS.md"
-INTEGRATION, ARCHITECTURE = ROOT / "docs/INTEGRATION.md", ROOT / "docs/ARCHITECTURE.md"
+INTEGRATION, ARCHITECTURE, SCOPE = ROOT / "docs/INTEGRATION.md", ROOT / "docs/ARCHITECTURE.md", ROOT / "docs/SCOPE.md"
 PAGES = [README, ROOT / "CONTRIBUTING.md", ROOT / "CHANGELOG.md", *sorted((ROOT / "docs").rglob("*.md"))]
 README_LINES, README_BYTES = 130, 9216
 HEADER = (ROOT / "include/softspoken.h").read_text()
@@ -131,7 +131,7 @@ for page in PAGES:
         expect("edits", page, f"no edit {crate}/{name}", (ROOT / f"crates/{crate}/must-fail/{name}.edit").exists())
     if page in (README, INTEGRATION):
         check_names(page, text)
-    if page.name == "SCOPE.md":
+    if page in (SCOPE, THEOREMS):
         for name in re.findall(r"`(\w+(?:::\w+)+)`", text):
             expect("functions", page, f"no function {name}", name in known)
         for crate, file, name in re.findall(r"`(\w+): (\w+)\.([\w⊕-]+)`", text):

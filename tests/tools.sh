@@ -22,7 +22,8 @@ sanitizers() {
     return $status
 }
 
-rust() { [ "$(rustc --version | sed -n 's/^rustc 1\.\([0-9]*\)\..*/\1/p')" -ge 63 ]; }
+# rustup puts it where not every shell looks
+rust() { PATH=$PATH:~/.cargo/bin; [ "$(rustc --version | sed -n 's/^rustc 1\.\([0-9]*\)\..*/\1/p')" -ge 63 ]; }
 
 need 'rt (it comes with Rattle, not with Debian)' - command -v rt
 need python3 python3 command -v python3

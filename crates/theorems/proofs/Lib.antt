@@ -7,4 +7,6 @@ pub mod Demand3
 pub mod Demand2
 pub mod Ties
 pub mod Edges
+pub mod Kept
 pub mod Witness
+pub mod Cheats

@@ -1,131 +1,31 @@
--- The hypotheses of the demands can be met. For every call there is an answer, and what its promise says; so there is an honest batch of all
--- numbers, ranges and records that paper 01 allows, and a run of demand 3's four steps for any correction of its length and any message, key,
--- record and range at the verify. Among the runs are cheats, which pass where the receiver has guessed delta, and close where not. Assumes nothing.
-use mathlib.Core.Path.{_≡_, refl, sym, ap, _∙_, subst}
+-- The hypotheses of demands 2 and 3 can be met: by an honest batch of all numbers, ranges and records that paper 01 allows, and by a run of demand
+-- 3's four steps for any correction of its length and any message, key, record and range at the verify. Assumes nothing.
+use mathlib.Core.Path.{_≡_, refl, ap, _∙_, subst}
 use mathlib.Core.Bool.{true}
-use mathlib.Core.Logic.{_⊎_, inl, inr, _↔_, _≢_}
-use mathlib.Core.List.{[]}
-use Prim.Native.Nat.{ℕ, _*_, _/_, _^_, _<_, _≤_}
+use Prim.Native.Nat.{ℕ, _*_, _^_, _<_, _≤_}
 use native.Mathlib.Omega.{arith}
 use lib.ListN.{length, replicate, length-replicate}
 use Rattle.words.specs.Bytes.{Range, Bytes}
-use Rattle.words.specs.Bits.{bitAt}
-use Rattle.words.proofs.Xor.{bit-lt, scale-lt}
 use Rattle.sizes.specs.Sizes.{widthAllowed, columns, treesOf, deltaLength, rootsLength, receiverBasePadsLength, setupMessageLength, siblingsLength}
 use Rattle.sizes.specs.Sizes.{columnLength, tableLength, correctionLength, checkMessageLength, receiverPadsLength, senderPadsLength}
 use Rattle.sizes.proofs.Widths.{width-fits}
 use Rattle.tree.specs.Tree.{streamByte}
-use Rattle.tree.proofs.Streams.{stream-lt}
 use Rattle.answer.specs.declared.Answer.{Answer}
 use Rattle.answer.specs.declared.Answer.the-variants.{Done}
-use Rattle.answer.specs.Answer.{isDone, firstOf, whenDone, whenFailed}
-use Rattle.answer.proofs.Order.{apart}
-use Rattle.setup.specs.Setup.{messageOf, siblingsOf, senderBasePads, ReceiverSetup, SenderSetup}
+use Rattle.answer.specs.Answer.{whenDone}
+use Rattle.setup.specs.Setup.{senderBasePads, ReceiverSetup, SenderSetup}
 use Rattle.setup.proofs.Honest.{besidePaths-length}
-use Rattle.columns.specs.Columns.{choicesOf, receiverTable, correctionOf, treeCorrection, senderTable}
-use Rattle.columns.proofs.Tables.{correctionOf-length, senderTable-length}
-use Rattle.columns.proofs.Bounds.{correctionOf-bytes}
-use Rattle.consistency.specs.Message.{checkMessage, accepts}
-use Rattle.pads.specs.Pads.{receiverPads, senderPads}
+use Rattle.columns.specs.Columns.{treeCorrection, senderTable}
+use Rattle.columns.proofs.Tables.{senderTable-length}
 use Rattle.rules.specs.declared.Record.{Record}
-use Rattle.rules.specs.Orders.{newRecord, withBatch, withoutBatch, closed}
-use Rattle.rules.specs.Orders.{receiverSetupOrder, senderSetupOrder, sessionOrder, startOrder, correctOrder, answerOrder, verifyOrder}
-use Rattle.session.specs.Steps.{OpenSession, ReceiverStart, SenderCorrect, ReceiverAnswer, SenderVerify}
-use Rattle.errors.specs.Errors.{Sent, honestCorrection, columnError, foldedError}
-use Rattle.errors.proofs.NoErrors.{folded-is}
-use Rattle.errors.proofs.AnyErrors.{erring, erring-length, choice-errs, column-errs}
+use Rattle.rules.specs.Orders.{withBatch}
+use Rattle.session.specs.Steps.{SenderCorrect}
+use Rattle.errors.specs.Errors.{Sent}
 use Rattle.theorems.specs.Demand2.{Ready, HonestBatch}
-use Rattle.theorems.specs.Demand3.{Run, Unrefused, Accepts, Closes}
+use Rattle.theorems.specs.Demand3.{Run, Unrefused}
 use Rattle.theorems.proofs.Setup.{siblings-are, both-done}
-use Rattle.theorems.proofs.Demand3.{demand3, bit-found}
 use Rattle.theorems.proofs.Demand2.{opens, correct-allowed, verify-allowed, check-decides}
-
--- ---- every promise can be kept, whatever the step is given
-
--- an answer and what the step leaves, of which its promise holds
-pub record Gives (A : Type 0) (P : Answer → A → Type 0) : Type 0 where
-  pub answer : Answer
-  pub left : A
-  pub promised : P answer left
-
-pub receiver-setup-gives : (width : ℕ) (roots pads message : Range) → Gives Range (λ a m. ReceiverSetup width roots pads message a m)
-receiver-setup-gives width roots pads message =
-    let a : Answer = firstOf (receiverSetupOrder width (length roots) (length pads) (length message)) in
-    record { answer = a; left = whenDone a (messageOf (treesOf width) width roots pads) message; promised = record { answered = refl; written = refl } }
-
-pub sender-setup-gives : (width : ℕ) (delta pads message siblings : Range)
-    → Gives Range (λ a s. SenderSetup width delta pads message siblings a s)
-sender-setup-gives width delta pads message siblings =
-    let a : Answer = firstOf (senderSetupOrder width (length delta) (length pads) (length message) (length siblings)) in
-    record {
-      answer = a;
-      left = whenDone a (siblingsOf (treesOf width) width delta pads message) siblings;
-      promised = record { answered = refl; written = refl };
-    }
-
-pub open-session-gives : (r : Record) (width : ℕ) → Gives Record (λ a s. OpenSession r width a s)
-open-session-gives r width =
-    let a : Answer = firstOf (sessionOrder width) in
-    record { answer = a; left = whenDone a (newRecord width) r; promised = record { answered = refl; recorded = refl } }
-
-pub receiver-start-gives : (r : Record) (roots : Range) (batch blocks : ℕ) (choices table correction : Range)
-    → Gives (Record × Range × Range × Range) (λ a s. ReceiverStart r roots batch blocks choices table correction a (s .0) (s .1) (s .2) (s .3))
-receiver-start-gives r roots batch blocks choices table correction =
-    let a : Answer = firstOf (startOrder r batch blocks (length roots) (length choices) (length table) (length correction)) in
-    let n : ℕ = treesOf (r .width) in
-    let len : ℕ = columnLength blocks in
-    record {
-      answer = a;
-      left = (
-        whenDone a (withBatch r batch blocks) r,
-        whenDone a (choicesOf (r .width) (streamByte batch) len roots) choices,
-        whenDone a (receiverTable n (r .width) (streamByte batch) len roots) table,
-        whenDone a (correctionOf n (r .width) (streamByte batch) len roots) correction,
-      );
-      promised = record { answered = refl; recorded = refl; chosen = refl; filled = refl; corrected = refl };
-    }
-
-pub sender-correct-gives : (r : Record) (siblings delta : Range) (batch blocks : ℕ) (correction table : Range)
-    → Gives (Record × Range) (λ a s. SenderCorrect r siblings delta batch blocks correction table a (s .0) (s .1))
-sender-correct-gives r siblings delta batch blocks correction table =
-    let a : Answer = firstOf (correctOrder r batch blocks (length siblings) (length delta) (length correction) (length table)) in
-    let len : ℕ = columnLength blocks in
-    record {
-      answer = a;
-      left = (
-        whenDone a (withBatch r batch blocks) r,
-        whenDone a (senderTable (treesOf (r .width)) (r .width) (streamByte batch) len siblings delta (treeCorrection len correction)) table,
-      );
-      promised = record { answered = refl; recorded = refl; filled = refl };
-    }
-
-pub receiver-answer-gives : (r : Record) (key : ℕ) (choices table message pads : Range)
-    → Gives (Record × Range × Range) (λ a s. ReceiverAnswer r key choices table message pads a (s .0) (s .1) (s .2))
-receiver-answer-gives r key choices table message pads =
-    let a : Answer = firstOf (answerOrder r (length choices) (length table) (length message) (length pads)) in
-    record {
-      answer = a;
-      left = (
-        whenDone a (withoutBatch r) r,
-        whenDone a (checkMessage columns (columnLength (r .blocks)) key choices table) message,
-        whenDone a (receiverPads columns (r .blocks) (r .last) table) pads,
-      );
-      promised = record { answered = refl; recorded = refl; told = refl; padded = refl };
-    }
-
-pub sender-verify-gives : (r : Record) (key : ℕ) (table delta message pads : Range)
-    → Gives (Record × Range) (λ a s. SenderVerify r key table delta message pads a (s .0) (s .1))
-sender-verify-gives r key table delta message pads =
-    let a : Answer =
-    firstOf (verifyOrder r (length table) (length delta) (length message) (length pads) (accepts columns (columnLength (r .blocks)) key table delta message)) in
-    record {
-      answer = a;
-      left = (
-        whenDone a (withoutBatch r) (whenFailed a (closed r) r),
-        whenDone a (senderPads columns (r .blocks) (r .last) table delta) pads,
-      );
-      promised = record { answered = refl; recorded = refl; padded = refl };
-    }
+use Rattle.theorems.proofs.Kept.{Gives, receiver-setup-gives, sender-setup-gives, receiver-start-gives, sender-correct-gives, receiver-answer-gives, sender-verify-gives}
 
 -- ---- demand 2: an honest batch
 
@@ -137,7 +37,7 @@ pub record HonestOf (width batch blocks key : ℕ) (basePads roots delta : Range
   pub of-records : (honest .r ≡ r) × (honest .q ≡ q)
 
 -- a range out of a length, whatever it holds
-abbrev room : ℕ → Range
+abbrev pub room : ℕ → Range
 room n = replicate n 0
 
 room-length : (n : ℕ) → length (room n) ≡ n
@@ -333,98 +233,3 @@ module _ (s : Sent) (delta basePads : Range) (r : Record) (allowed : Allowed s d
       table siblings =
           senderTable (treesOf (r .width)) (r .width) (streamByte (s .batch)) (columnLength (s .blocks)) siblings delta
           (treeCorrection (columnLength (s .blocks)) (s .correction))
-
--- ---- cheats
-
--- what a receiver sends that adds x to the fold of the choices, and to that of every column whose bit of delta it guesses to be 1
-pub record Cheat (s : Sent) (x : ℕ) (guess : Range) : Type 0 where
-  pub key-fits : s .key < 2 ^ 64
-  pub small : x < 2 ^ 64
-  pub some : x ≢ 0
-  pub corrected : s .correction ≡ honestCorrection s
-  pub told : s .message ≡ erring s x (λ c. bitAt guess c * x)
-
--- the folded error of every tree is x
-pub cheat-errs : (s : Sent) (x : ℕ) (guess : Range) → Cheat s x guess → (i : ℕ) → foldedError s i ≡ x
-cheat-errs s x guess cheat i =
-    folded-is s (cheat .corrected) i ∙ choice-errs s (cheat .key-fits) x (λ c. bitAt guess c * x) (cheat .told) (cheat .small)
-
--- and it passes exactly where the guess is right; where it isn't, the session closes
-pub cheat-passes : (s : Sent) (x : ℕ) (guess : Range) → Cheat s x guess → (delta : Range) (run : Run s delta) → Unrefused (run .answer)
-    → (run .answer ≡ Done) ↔ ((c : ℕ) → c < columns → bitAt delta c ≡ bitAt guess c)
-cheat-passes s x guess cheat delta run unrefused = by (demand3 s .verdict delta run unrefused)
-  where
-    erred : (c : ℕ) → c < columns → columnError s c ≡ bitAt guess c * x
-    erred c lt =
-        column-errs s (cheat .key-fits) x (λ c. bitAt guess c * x) (cheat .told) c (scale-lt (2 ^ 64) (bitAt guess c) x (bit-lt _ _) (cheat .small)) lt
-
-    by : Accepts s delta run ⊎ Closes s delta run → (run .answer ≡ Done) ↔ ((c : ℕ) → c < columns → bitAt delta c ≡ bitAt guess c)
-    by (inl accepts) = (
-      λ done c lt.
-          bit-found (bitAt delta c) (bitAt guess c) x (bit-lt _ _) (bit-lt _ _) (cheat .some)
-          (ap (λ (e : ℕ). bitAt delta c * e) (sym (cheat-errs s x guess cheat (c / s .width))) ∙ accepts .meet c lt ∙ erred c lt),
-      λ same. accepts .answered,
-    )
-    by (inr closes) = (
-      λ done. apart (ap isDone (sym (closes .answered) ∙ done)),
-      λ same.
-          absurd
-          (closes .differ
-          (λ c lt.
-          ap (λ (e : ℕ). bitAt delta c * e) (cheat-errs s x guess cheat (c / s .width))
-          ∙ ap (λ (p : ℕ). p * x) (same c lt)
-          ∙ sym (erred c lt))),
-    )
-
--- there is such a run of every guess and every delta, at every width, batch, blocks and key that are allowed: so some runs with errors pass, and some
--- close
-pub record CheatRun (width batch blocks key : ℕ) (roots delta guess : Range) (x : ℕ) : Type 0 where
-  pub sent : Sent
-  pub of-numbers : (sent .width ≡ width) × (sent .batch ≡ batch) × (sent .blocks ≡ blocks) × (sent .key ≡ key)
-  pub of-roots : sent .roots ≡ roots
-  pub cheat : Cheat sent x guess
-  pub run : Run sent delta
-  pub unrefused : Unrefused (run .answer)
-
-pub a-cheat : (width batch blocks key : ℕ) (basePads roots delta guess : Range) (x : ℕ) (r : Record)
-    → widthAllowed width ≡ true → 1 ≤ blocks → blocks ≤ 15 → key < 2 ^ 64
-    → length basePads ≡ receiverBasePadsLength → length roots ≡ rootsLength width → length delta ≡ deltaLength
-    → Ready r width → r .last < batch → x < 2 ^ 64 → x ≢ 0
-    → CheatRun width batch blocks key roots delta guess x
-a-cheat width batch blocks key basePads roots delta guess x r allowed low high key-fits pads-long roots-long delta-long ready next small some =
-    record {
-      sent = sent;
-      of-numbers = (refl, refl, refl, refl);
-      of-roots = refl;
-      cheat = record { key-fits = key-fits; small = small; some = some; corrected = refl; told = refl };
-      run = a-run sent delta basePads r all-allowed (withBatch r batch blocks) (room (senderPadsLength blocks)) .run;
-      unrefused = an-unrefused-run sent delta basePads r all-allowed (erring-length honest x (λ c. bitAt guess c * x));
-    }
-  where
-    honest : Sent
-    honest = record { roots = roots; width = width; batch = batch; blocks = blocks; correction = []; message = []; key = key }
-
-    sent : Sent
-    sent = record {
-      roots = roots;
-      width = width;
-      batch = batch;
-      blocks = blocks;
-      correction = honestCorrection honest;
-      message = erring honest x (λ c. bitAt guess c * x);
-      key = key;
-    }
-
-    all-allowed : Allowed sent delta basePads r
-    all-allowed = record {
-      width-allowed = allowed;
-      some-blocks = low;
-      few-blocks = high;
-      ready = ready;
-      next = next;
-      roots-length = roots-long;
-      base-pads-length = pads-long;
-      delta-length = delta-long;
-      correction-length = correctionOf-length (treesOf width) width (streamByte batch) (columnLength blocks) roots;
-      correction-bytes = correctionOf-bytes (streamByte batch) (stream-lt batch) (treesOf width) width (columnLength blocks) roots;
-    }
