@@ -2,6 +2,7 @@
    turn, the least of many passes. Outputs are compared first. Writes a line for each row, with tabs between: here "work", name,
    nanoseconds of plain C and proved, goal of their ratio; for the steps see steps.h. bench/report.py reads them. */
 #include "../include/softspoken.h"
+#include "../tests/file.h"
 #include "bench.h"
 #include "measure.h"
 #include "plain.h"
@@ -13,6 +14,7 @@ enum { COLUMNS = 128, LENGTH = 128 };
 
 static uint8_t key[4][32], nonce[12], message[1024], table_bytes[COLUMNS * LENGTH];
 static uint8_t roots[4096], delta[16], pads[8192], totals[8192];
+static uint8_t file[SOFTSPOKEN_FILE_MAX + 1];
 static uint32_t lanes[32];
 static volatile uint64_t sink;
 
@@ -77,6 +79,15 @@ static void sender8_proved(unsigned i) { sender_proved(8, i); }
 static void sender1_plain(unsigned i) { sender_plain(1, i); }
 static void sender1_proved(unsigned i) { sender_proved(1, i); }
 
+/* The longest file: k = 1, P = 15, with a setup. Its batch number depends on i. */
+static void file_with(unsigned i, struct softspoken_file (*read)(const uint8_t *, size_t)) {
+    put_le32(file + SOFTSPOKEN_FILE_CONTENTS_BYTES(5) + SOFTSPOKEN_SETUP_MESSAGE_BYTES + 2, i + 1);
+    struct softspoken_file found = read(file, SOFTSPOKEN_FILE_MAX);
+    sink ^= found.answer ^ found.batch ^ found.check;
+}
+static void file_plain(unsigned i) { file_with(i, plain_file_read); }
+static void file_proved(unsigned i) { file_with(i, softspoken_file_read); }
+
 /* Units are what the times are divided by: blocks, hashes, words. */
 struct row { const char *name; work_once *plain; double plain_units; work_once *proved; double units, goal; };
 
@@ -92,6 +103,7 @@ static const struct row rows[] = {
     {"receiver setup, k = 1", receiver1_plain, 1, receiver1_proved, 1, 0.6},
     {"sender setup, k = 8", sender8_plain, 1, sender8_proved, 1, 0.6},
     {"sender setup, k = 1", sender1_plain, 1, sender1_proved, 1, 0.6},
+    {"batch file read", file_plain, 1, file_proved, 1, 1.0},
 };
 enum { ROWS = sizeof rows / sizeof *rows };
 
@@ -139,9 +151,31 @@ static void compare_setups(void) {
     }
 }
 
+static int same_file(struct softspoken_file a, struct softspoken_file b) {
+    return a.answer == b.answer && a.width == b.width && a.blocks == b.blocks && a.batch == b.batch && a.setup == b.setup &&
+           a.head == b.head && a.correction == b.correction && a.key == b.key && a.check == b.check && a.end == b.end;
+}
+
+/* Files of every width and number of blocks, some with batch 0; then with the length of a body, a byte of contents or head, or the end
+   changed. */
+static void compare_files(void) {
+    for (uint32_t n = 0; n < 12000; n++) {
+        uint32_t width = 1u << n % 4, blocks = 1 + n / 4 % 15, first = 1 + n / 60 % 2;
+        struct lengths lengths = lengths_for(width, blocks);
+        int change = n / 120 % 4;
+        if (change == 1) lengths.of[1 + random64() % 5] += random64() % 2 ? 1 : -1;
+        size_t len = lay_file(file, first, lengths, width, blocks, random64() % 20 ? (uint32_t)random64() : 0);
+        size_t head = SOFTSPOKEN_FILE_CONTENTS_BYTES(6 - first) + (first == 1 ? lengths.of[1] : 0), at = random64() % 128;
+        if (change == 2) file[at < 64 ? at : head + at % 6] = (uint8_t)random64() % (at % 2 ? 20 : 255);
+        if (change == 3) len = random64() % (len + 2);
+        expect(same_file(plain_file_read(file, len), softspoken_file_read(file, len)), "batch file read");
+    }
+}
+
 static void time_rows(void) {
     static struct timed plain[ROWS], proved[ROWS];
     fill(table_bytes, sizeof table_bytes);
+    lay_file(file, SOFTSPOKEN_FILE_SETUP, lengths_for(1, SOFTSPOKEN_BLOCKS_MAX), 1, SOFTSPOKEN_BLOCKS_MAX, 1);
     for (int pass = 0; pass < PASSES; pass++)
         for (int r = 0; r < ROWS; r++) {
             time_pass(&plain[r], rows[r].plain);
@@ -155,6 +189,7 @@ static void time_rows(void) {
 int main(void) {
     compare();
     compare_setups();
+    compare_files();
     compare_steps();
     time_rows();
     time_steps();

@@ -258,3 +258,37 @@ int plain_sender_verify(uint32_t batch, unsigned blocks, uint64_t key, const uin
     }
     return 1;
 }
+
+/* A batch on file, in one pass over the contents */
+
+static struct softspoken_file refused(uint32_t answer, size_t len) {
+    return (struct softspoken_file){answer, 0, 0, 0, len, len, len, len, len, len};
+}
+
+struct softspoken_file plain_file_read(const uint8_t *file, size_t len) {
+    enum { SETUP, HEAD, CORRECTION, KEY, CHECK, END };
+    if (len < 4) return refused(SOFTSPOKEN_ERR_CONTENTS, len);
+    uint32_t count = load_le(file);
+    if ((count != 4 && count != 5) || len < 4 + 12 * count) return refused(SOFTSPOKEN_ERR_CONTENTS, len);
+    uint64_t begin[END + 1], at = 4 + 12 * count;
+    begin[SETUP] = at; /* where the head begins, if the setup is absent */
+    const uint8_t *entry = file + 4;
+    for (unsigned body = END - count; body < END; body++, entry += 12) {
+        if (load_le(entry) != body + 1 || load_le(entry + 4) != at) return refused(SOFTSPOKEN_ERR_CONTENTS, len);
+        begin[body] = at;
+        at += load_le(entry + 8);
+    }
+    if (at != len) return refused(SOFTSPOKEN_ERR_CONTENTS, len);
+    if (begin[CORRECTION] - begin[HEAD] != 6) return refused(SOFTSPOKEN_ERR_BODY, len);
+    const uint8_t *head = file + begin[HEAD];
+    uint32_t width = head[0], blocks = head[1], batch = load_le(head + 2);
+    if (width != 1 && width != 2 && width != 4 && width != 8) return refused(SOFTSPOKEN_ERR_WIDTH, len);
+    if (batch == 0) return refused(SOFTSPOKEN_ERR_BATCH, len);
+    if (blocks < 1 || blocks > 15) return refused(SOFTSPOKEN_ERR_BLOCKS, len);
+    if ((count == 5 && begin[HEAD] - begin[SETUP] != 8192) ||
+        begin[KEY] - begin[CORRECTION] != (128 / width - 1) * 8 * (blocks + 1) || begin[CHECK] - begin[KEY] != 8 ||
+        len - begin[CHECK] != 1032)
+        return refused(SOFTSPOKEN_ERR_BODY, len);
+    return (struct softspoken_file){SOFTSPOKEN_DONE, width, blocks, batch, begin[SETUP], begin[HEAD], begin[CORRECTION], begin[KEY],
+                                    begin[CHECK], len};
+}

@@ -1,4 +1,5 @@
-/* Plain C counterparts of the proved functions, from RFC 8439, FIPS 180-4, the field's definition and paper 01. */
+/* Plain C counterparts of the proved functions, from RFC 8439, FIPS 180-4, the field's definition and papers 01 and 02. */
+#include "../include/softspoken.h"
 #include <stddef.h>
 #include <stdint.h>
 
@@ -19,3 +20,5 @@ void plain_receiver_answer(uint32_t batch, unsigned blocks, uint64_t key, const 
 /* Whether the check message is accepted; where it isn't, the pads stay. */
 int plain_sender_verify(uint32_t batch, unsigned blocks, uint64_t key, const uint8_t *table, const uint8_t delta[16],
                         const uint8_t message[1032], uint8_t *pads);
+/* Any file: the answer, the head's values and the places, as include/softspoken.h names them. */
+struct softspoken_file plain_file_read(const uint8_t *file, size_t len);

@@ -90,10 +90,10 @@ The answer and the verify do the same work at every width.
 
 {step_table(rows, "step", "Step")}
 
-## Primitives and setups
+## Primitives, setups and files
 
 {wrap('''The forms that do four at once are compared with plain C's one at a time. The sender's setup at k = 1 makes no node, so that row is
-exclusive or alone.''')}
+exclusive or alone. The batch file is the longest, of k = 1 and P = 15 with a setup; both look at every rule, and copy nothing.''')}
 
 {work_table(rows)}
 

@@ -12,7 +12,8 @@
        softspoken_receiver_answer    --- check message --->      softspoken_sender_verify
        pads: one per transfer                                    pads: two per transfer
 
-   Random bytes, base transfers and carriage between the sides are the host's. Link with -lsoftspoken.
+   Random bytes, base transfers and carriage between the sides are the host's. Link with -lsoftspoken. A batch that was
+   kept on file is read by softspoken_file_read.
 
    CALLS. A byte range is a pointer and its length in bytes. The pointer must be valid for that length, and not null
    even where the length is 0. The record, and a range that the call writes, must not overlap any other range of that
@@ -20,7 +21,7 @@
    allocates, keeps anything between calls or touches global data, so threads may call on records and ranges of their
    own. Beside what is lent a call takes at most 16 KB of stack, which it doesn't wipe.
 
-   ANSWERS. A call returns SOFTSPOKEN_DONE or a refusal. The conditions of a step are looked at in the order in which
+   ANSWERS. A call returns SOFTSPOKEN_DONE or a refusal. The conditions of a call are looked at in the order in which
    its comment lists the refusals, and the first that is met is returned. After a refusal the record and every range
    are as they were, except that SOFTSPOKEN_ERR_CHECK sets the record's stage to SOFTSPOKEN_STAGE_CLOSED. A call never
    writes to a range that is marked 'in', and never beyond a range.
@@ -33,7 +34,8 @@
 
    SECRETS. Each range is marked 'secret' (this side tells it to nobody) or 'sent' (to or from the other side). Records,
    widths, batch numbers, blocks, lengths, keys and answers are public. No branch and no address depends on a byte of
-   any range, but for one jump in softspoken_sender_verify, on its answer.
+   any range, but for one jump in softspoken_sender_verify, on its answer, and for the contents and the head of a file,
+   which softspoken_file_read looks at.
 
    THE LINE. The library carries nothing. Beside the three messages the host carries batch number, blocks and key. They
    must be the same on both sides, as must the width. We advise 4 bytes for the batch number, 4 for the blocks and 8 for
@@ -60,7 +62,7 @@
    value is SHA-256 of 32 bytes: the letters PADS, the batch number in 8 bytes, the row in 4, and the row value in 16.
 
    What a function promises below, its answer and what the record and each range hold afterwards, is proved for all
-   inputs (docs/THEOREMS.md tells how). What SECRETS says, the bound on the stack and the three inline functions are
+   inputs (docs/THEOREMS.md tells how). What SECRETS says, the bound on the stack and the four inline functions are
    tested, not proved. */
 #ifndef SOFTSPOKEN_H
 #define SOFTSPOKEN_H
@@ -75,7 +77,7 @@ extern "C" {
 /* The major number rises when a program that was compiled with an older header no longer works, the minor one when
    there is something new. The string and the number, which is for #if, are made of these three. */
 #define SOFTSPOKEN_VERSION_MAJOR 1
-#define SOFTSPOKEN_VERSION_MINOR 1
+#define SOFTSPOKEN_VERSION_MINOR 2
 #define SOFTSPOKEN_VERSION_PATCH 0
 #define SOFTSPOKEN_VERSION_NUMBER \
     (SOFTSPOKEN_VERSION_MAJOR * 10000 + SOFTSPOKEN_VERSION_MINOR * 100 + SOFTSPOKEN_VERSION_PATCH)
@@ -116,15 +118,26 @@ extern "C" {
 #define SOFTSPOKEN_RECEIVER_PADS_BYTES(blocks) (SOFTSPOKEN_PAD_BYTES * SOFTSPOKEN_TRANSFERS(blocks))
 #define SOFTSPOKEN_SENDER_PADS_BYTES(blocks) (2 * SOFTSPOKEN_PAD_BYTES * SOFTSPOKEN_TRANSFERS(blocks))
 
+/* A batch on file: its contents of 4 or 5 entries, the two bodies whose sizes are not named above, and the longest file
+   that is read, 25558. A host that reads from disk needs room for one byte more, to see that a file is longer. */
+#define SOFTSPOKEN_FILE_CONTENTS_BYTES(entries) (4 + 12 * (size_t)(entries))
+#define SOFTSPOKEN_FILE_HEAD_BYTES 6
+#define SOFTSPOKEN_FILE_KEY_BYTES 8
+#define SOFTSPOKEN_FILE_MAX \
+    (SOFTSPOKEN_FILE_CONTENTS_BYTES(5) + SOFTSPOKEN_SETUP_MESSAGE_BYTES + SOFTSPOKEN_FILE_HEAD_BYTES + \
+     SOFTSPOKEN_CORRECTION_BYTES(1, SOFTSPOKEN_BLOCKS_MAX) + SOFTSPOKEN_FILE_KEY_BYTES + SOFTSPOKEN_CHECK_MESSAGE_BYTES)
+
 /* ---- What a call returns. */
 enum softspoken_answer {
     SOFTSPOKEN_DONE = 0,
-    SOFTSPOKEN_ERR_WIDTH = 1,  /* the width is not 1, 2, 4 or 8 */
-    SOFTSPOKEN_ERR_STAGE = 2,  /* the record is in another stage than the step needs */
-    SOFTSPOKEN_ERR_BATCH = 3,  /* the batch number is 0, or a new one is not above the last */
-    SOFTSPOKEN_ERR_BLOCKS = 4, /* the blocks are not 1 to 15 */
-    SOFTSPOKEN_ERR_LENGTH = 5, /* a range has another length than the one named */
-    SOFTSPOKEN_ERR_CHECK = 6   /* the check failed: the receiver cheated, or something was damaged or mixed up */
+    SOFTSPOKEN_ERR_WIDTH = 1,    /* the width is not 1, 2, 4 or 8 */
+    SOFTSPOKEN_ERR_STAGE = 2,    /* the record is in another stage than the step needs */
+    SOFTSPOKEN_ERR_BATCH = 3,    /* the batch number is 0, or a new one is not above the last */
+    SOFTSPOKEN_ERR_BLOCKS = 4,   /* the blocks are not 1 to 15 */
+    SOFTSPOKEN_ERR_LENGTH = 5,   /* a range has another length than the one named */
+    SOFTSPOKEN_ERR_CHECK = 6,    /* the check failed: the receiver cheated, or something was damaged or mixed up */
+    SOFTSPOKEN_ERR_CONTENTS = 7, /* a file's count, kinds, offsets or end are not by the rules */
+    SOFTSPOKEN_ERR_BODY = 8      /* a body in a file has another length than its kind has */
 };
 
 /* The name of an answer, as it stands above, for a log; "unknown answer" for any other number. */
@@ -137,6 +150,8 @@ static inline const char *softspoken_answer_name(uint32_t answer) {
     case SOFTSPOKEN_ERR_BLOCKS: return "SOFTSPOKEN_ERR_BLOCKS";
     case SOFTSPOKEN_ERR_LENGTH: return "SOFTSPOKEN_ERR_LENGTH";
     case SOFTSPOKEN_ERR_CHECK: return "SOFTSPOKEN_ERR_CHECK";
+    case SOFTSPOKEN_ERR_CONTENTS: return "SOFTSPOKEN_ERR_CONTENTS";
+    case SOFTSPOKEN_ERR_BODY: return "SOFTSPOKEN_ERR_BODY";
     default: return "unknown answer";
     }
 }
@@ -289,6 +304,73 @@ uint32_t softspoken_receiver_answer(struct softspoken_record *record, uint64_t k
 uint32_t softspoken_sender_verify(struct softspoken_record *record, uint64_t key, const uint8_t *table,
                                   size_t table_len, const uint8_t *delta, size_t delta_len, const uint8_t *message,
                                   size_t message_len, uint8_t *pads, size_t pads_len);
+
+/* ---- A batch on file: what travelled, as a site keeps it for support. No secret is in it. A file begins with its
+   contents: the number of its entries, 4 or 5, in 4 bytes, then for each entry its kind, where its body begins, counted
+   from the file's start, and its body's length, in 4 bytes each, all little-endian. Then the bodies follow in the same
+   order, without a gap, up to the file's end. The kinds stand in order, each once; only the setup may be absent. */
+enum softspoken_file_kind {
+    SOFTSPOKEN_FILE_SETUP = 1,      /* the setup message: SOFTSPOKEN_SETUP_MESSAGE_BYTES */
+    SOFTSPOKEN_FILE_HEAD = 2,       /* width in 1 byte, blocks in 1, batch number in 4: SOFTSPOKEN_FILE_HEAD_BYTES */
+    SOFTSPOKEN_FILE_CORRECTION = 3, /* SOFTSPOKEN_CORRECTION_BYTES(width, blocks), by the head */
+    SOFTSPOKEN_FILE_KEY = 4,        /* SOFTSPOKEN_FILE_KEY_BYTES */
+    SOFTSPOKEN_FILE_CHECK = 5       /* the check message: SOFTSPOKEN_CHECK_MESSAGE_BYTES */
+};
+
+/* What reading a file finds. A body is what lies between its place and the next one; an absent setup begins where the
+   head does, so it is empty. */
+struct softspoken_file {
+    uint32_t answer;
+    uint32_t width;      /* the head's values */
+    uint32_t blocks;
+    uint64_t batch;
+    uint64_t setup;      /* where each body begins, counted from the file's start */
+    uint64_t head;
+    uint64_t correction;
+    uint64_t key;
+    uint64_t check;
+    uint64_t end;        /* the file's length */
+};
+
+/* Reads a file. It looks at the form alone: it can't tell who wrote the file, or whether the check passed. It writes
+   nothing and copies nothing.
+   Refusals, in this order: ERR_CONTENTS if the count, a kind, an offset or the file's end breaks the rules above;
+   ERR_BODY if the head isn't SOFTSPOKEN_FILE_HEAD_BYTES long; ERR_WIDTH; ERR_BATCH if the batch number is 0;
+   ERR_BLOCKS; ERR_BODY if another body hasn't the length above.
+
+   file       in, sent: any bytes, of any length.
+
+   When done: the head's values, and the places. After a refusal the head's values are 0, and every place is the file's
+   length, so every body is empty. The end is the file's length always. */
+struct softspoken_file softspoken_file_read(const uint8_t *file, size_t file_len);
+
+/* A body: a part of a file, and so valid for as long as the file's bytes are. The pointer is never null. */
+struct softspoken_body {
+    const uint8_t *bytes;
+    size_t len;
+};
+
+/* The body of a kind, from a file and what reading it found. It is empty after a refusal, and for any other kind. Any
+   struct, file and kind may be given: with another file's struct the body may be empty or other bytes, but it is always
+   a part of the file that is given. This is tested, not proved. */
+static inline struct softspoken_body softspoken_file_body(const struct softspoken_file *found, const uint8_t *file,
+                                                          size_t file_len, uint32_t kind) {
+    struct softspoken_body body = {file, 0};
+    uint64_t from = 0, to = 0;
+    switch (kind) {
+    case SOFTSPOKEN_FILE_SETUP: from = found->setup, to = found->head; break;
+    case SOFTSPOKEN_FILE_HEAD: from = found->head, to = found->correction; break;
+    case SOFTSPOKEN_FILE_CORRECTION: from = found->correction, to = found->key; break;
+    case SOFTSPOKEN_FILE_KEY: from = found->key, to = found->check; break;
+    case SOFTSPOKEN_FILE_CHECK: from = found->check, to = found->end; break;
+    default: break;
+    }
+    if (from < to && to <= file_len) {
+        body.bytes = file + (size_t)from;
+        body.len = (size_t)(to - from);
+    }
+    return body;
+}
 
 #ifdef __cplusplus
 }

@@ -1,7 +1,8 @@
 """The columns, the trees, and the length of every byte range that a step is lent: paper 01, 'Words and layouts' and 'Steps and their
-turning away'.
+turning away'; of a batch on file, paper 02, note 1.
 
-Each is a function of the width, and in a batch of the blocks, also where it is the same for every width. A size stands nowhere else.
+Each is a function of the width, and in a batch of the blocks, also where it is the same for every width, except what stands in a file
+before its width is known. A size stands nowhere else.
 """
 
 
@@ -82,3 +83,20 @@ def receiver_pads_length(width, blocks):
 def sender_pads_length(width, blocks):
     """The keeper's pads: 4,096 × P, two for each transfer."""
     return 64 * transfers(width, blocks)
+
+
+# A batch on file.
+
+def contents_length(count):
+    """The count: 4, then for each entry its kind, offset and length: 4 each."""
+    return 4 + 12 * count
+
+
+def head_length():
+    """The head: 6, of which the width has 1, the blocks 1 and the batch 4."""
+    return 1 + 1 + 4
+
+
+def key_length(width):
+    """The key: 8."""
+    return 8

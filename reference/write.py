@@ -13,11 +13,14 @@ import sys
 
 import batch
 import chacha20
+import file
+import filecases
 import gf64
 import published
 import setup
 import sha256
 import sizes
+from records import LIMIT, Records, derived, numbers
 
 ROOT = pathlib.Path(__file__).resolve().parent.parent
 
@@ -32,9 +35,6 @@ CORRECTION, MESSAGE, TABLE, DELTA, KEY = range(5)
 
 MOST = (1 << 32) - 1
 
-# The programs vectors and batches read no more than this.
-LIMIT = 1000000
-
 
 def lanes(parts):
     """Four lists of 4-byte words side by side: word w of lane l at 4w + l."""
@@ -46,35 +46,9 @@ def lent(number, ranges):
     return b"".join(x.to_bytes(4, "little") for x in [number] + [len(r) for r in ranges]) + b"".join(ranges)
 
 
-def derived(seed, number, length):
-    """A range of a batch's record, which is not sent: bytes 32j to 32j + 31 are SHA-256 of the record's seed, the range's number and
-    j, 4 bytes each."""
-    head = seed.to_bytes(4, "little") + number.to_bytes(4, "little")
-    count = (length + 31) // 32
-    return b"".join(hashlib.sha256(head + j.to_bytes(4, "little")).digest() for j in range(count))[:length]
-
-
-def numbers(*given):
-    return b"".join(x.to_bytes(4, "little") for x in given)
-
-
 def stepped(answer, record, ranges=()):
     """The answer's number, the record, and the first 8 bytes of the digest of each range, as they are after a step."""
     return bytes([answer]).hex() + numbers(*record).hex() + "".join(hashlib.sha256(r).hexdigest()[:16] for r in ranges)
-
-
-class Records:
-    """Records and the lines that they give: a kind, the length of what follows, and that."""
-
-    def __init__(self):
-        self.asked = b""
-        self.lines = []
-        self.records = 0
-
-    def add(self, kind, payload, *lines):
-        self.asked += bytes([kind]) + len(payload).to_bytes(4, "little") + payload
-        self.lines += lines
-        self.records += 1
 
 
 class Vectors(Records):
@@ -605,17 +579,34 @@ def demo():
     return d.text
 
 
+def batch_on_file():
+    """What an honest setup and a batch of the fewest blocks sent, as a site keeps it."""
+    rng = random.Random(5)
+    width, blocks, number, key = 8, 1, rng.randrange(1, 1 << 32), rng.randrange(1 << 64)
+    roots, pads = rng.randbytes(sizes.roots_length(width)), rng.randbytes(sizes.receiver_base_pads_length(width))
+    _, message = setup.receiver_setup(width, roots, pads, bytes(sizes.setup_message_length(width)))
+    choices, v, correction = batch.receiver_batch(width, roots, number, sizes.column_length(width, blocks))
+    head, check = file.head_body(width, blocks, number), batch.check_message(key, choices, v)
+    data = file.write(head, message, correction, key.to_bytes(8, "little"), check)
+    assert file.read(data).answer == file.DONE
+    return data
+
+
 def files():
+    kept = batch_on_file()
     m3 = b"".join(x.to_bytes(8, "little") for x in (2, 1, 5))
     out = {
         "crates/foldprint/stdin": m3,
         "crates/foldprint/stdout": gf64.foldprint(m3).encode(),
+        "crates/batchprint/stdin": kept,
+        "crates/batchprint/stdout": file.batchprint(kept).encode(),
         "crates/demo/stdout": demo().encode(),
         "tests/host/setup.bin": setup_cases(),
+        "tests/host/files.bin": filecases.host_cases(),
     }
     for width in setup.WIDTHS:
         out["tests/host/session%d.bin" % width] = session_cases(width)
-    for name, made in (("vectors", vectors()), ("batches", batches())):
+    for name, made in (("vectors", vectors()), ("batches", batches()), ("files", filecases.cases())):
         out["crates/%s/stdin" % name] = made.asked
         out["crates/%s/stdout" % name] = "".join(line + "\n" for line in made.lines).encode()
     return out
@@ -625,6 +616,7 @@ def main():
     published.check()
     setup.check()
     batch.check()
+    file.check()
     differ = 0
     for name, content in files().items():
         path = ROOT / name

@@ -58,7 +58,7 @@ if [ "$(size build/libsoftspoken.a | awk 'NR > 1 { n += $2 + $3 } END { print n 
     exit 1
 fi
 nm -g build/libsoftspoken.a | awk 'NF > 1 { print $(NF - 1), $NF }' | sort >"$out/names"
-{ sed -n 's/^uint32_t \(softspoken_[a-z_]*\)(.*/T \1/p' include/softspoken.h; printf 'U %s\n' memset; } | sort >"$out/declared"
+{ sed -n 's/^\(uint32_t\|struct softspoken_file\) \(softspoken_[a-z_]*\)(.*/T \2/p' include/softspoken.h; printf 'U %s\n' memset; } | sort >"$out/declared"
 if ! diff "$out/names" "$out/declared"; then
     echo "example: the archive's names are not the header's"
     exit 1
@@ -97,6 +97,12 @@ wrong 's/ || transfer >= SOFTSPOKEN_BASE_TRANSFERS//'
 clang "${sanitized[@]}" -I"$out/wrong" -o "$out/inline" tests/inline.c
 if "$out/inline" "$version" >"$out/log" 2>&1 || ! grep -q 'heap-buffer-overflow' "$out/log"; then
     echo "example: a read beyond delta was not seen"
+    exit 1
+fi
+wrong 's/ && to <= file_len//'
+clang "${sanitized[@]}" -I"$out/wrong" -o "$out/inline" tests/inline.c
+if "$out/inline" "$version" >"$out/log" 2>&1 || ! grep -q 'heap-buffer-overflow' "$out/log"; then
+    echo "example: a read beyond a file was not seen"
     exit 1
 fi
 echo "example: runs as expected by gcc and clang, plain, under memcheck and sanitized; the header stands alone in C and C++, and its inline" \

@@ -7,15 +7,28 @@
 #define AT(line, fact) HOLDS(line, fact)
 #define EXPECT(fact) AT(__LINE__, fact)
 
-#if SOFTSPOKEN_VERSION_NUMBER < 10100 || SOFTSPOKEN_VERSION_NUMBER / 10000 != SOFTSPOKEN_VERSION_MAJOR
+#if SOFTSPOKEN_VERSION_NUMBER < 10200 || SOFTSPOKEN_VERSION_NUMBER / 10000 != SOFTSPOKEN_VERSION_MAJOR
 #error "the version's number"
 #endif
-EXPECT(sizeof(SOFTSPOKEN_VERSION) >= sizeof("1.1.0"));
+EXPECT(sizeof(SOFTSPOKEN_VERSION) >= sizeof("1.2.0"));
 
 EXPECT(sizeof(struct softspoken_record) == 16);
 EXPECT(offsetof(struct softspoken_record, last) == 4);
 EXPECT(offsetof(struct softspoken_record, blocks) == 8);
 EXPECT(offsetof(struct softspoken_record, stage) == 12);
+
+/* The numbers of a file that are returned, in the library's order; there are 4 bytes between blocks and batch that mean nothing. */
+EXPECT(sizeof(struct softspoken_file) == 72);
+EXPECT(offsetof(struct softspoken_file, answer) == 0);
+EXPECT(offsetof(struct softspoken_file, width) == 4);
+EXPECT(offsetof(struct softspoken_file, blocks) == 8);
+EXPECT(offsetof(struct softspoken_file, batch) == 16);
+EXPECT(offsetof(struct softspoken_file, setup) == 24);
+EXPECT(offsetof(struct softspoken_file, head) == 32);
+EXPECT(offsetof(struct softspoken_file, correction) == 40);
+EXPECT(offsetof(struct softspoken_file, key) == 48);
+EXPECT(offsetof(struct softspoken_file, check) == 56);
+EXPECT(offsetof(struct softspoken_file, end) == 64);
 
 EXPECT(SOFTSPOKEN_TREES(1) == 128);
 EXPECT(SOFTSPOKEN_TREES(8) == 16);
@@ -54,3 +67,14 @@ EXPECT(SOFTSPOKEN_RECEIVER_BASE_PADS_BYTES == 2 * SOFTSPOKEN_PAD_BYTES * SOFTSPO
 EXPECT(SOFTSPOKEN_SENDER_BASE_PADS_BYTES == SOFTSPOKEN_PAD_BYTES * SOFTSPOKEN_BASE_TRANSFERS);
 EXPECT(SOFTSPOKEN_SETUP_MESSAGE_BYTES == 2 * 32 * SOFTSPOKEN_BASE_TRANSFERS);
 EXPECT(SOFTSPOKEN_SIBLINGS_BYTES == 32 * SOFTSPOKEN_BASE_TRANSFERS);
+
+/* paper 02, note 1 */
+EXPECT(SOFTSPOKEN_FILE_SETUP == 1 && SOFTSPOKEN_FILE_HEAD == 2 && SOFTSPOKEN_FILE_CORRECTION == 3);
+EXPECT(SOFTSPOKEN_FILE_KEY == 4 && SOFTSPOKEN_FILE_CHECK == 5);
+EXPECT(SOFTSPOKEN_ERR_CONTENTS == 7 && SOFTSPOKEN_ERR_BODY == 8);
+EXPECT(SOFTSPOKEN_FILE_CONTENTS_BYTES(4) == 52);
+EXPECT(SOFTSPOKEN_FILE_CONTENTS_BYTES(5) == 64);
+EXPECT(SOFTSPOKEN_FILE_HEAD_BYTES == 1 + 1 + 4);
+EXPECT(SOFTSPOKEN_FILE_KEY_BYTES == 8);
+EXPECT(SOFTSPOKEN_FILE_MAX == 64 + 8192 + 6 + 16256 + 8 + 1032);
+EXPECT(SOFTSPOKEN_FILE_MAX == 25558);

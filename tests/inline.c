@@ -1,6 +1,6 @@
 /* The parts of include/softspoken.h that are code: its inline functions on numbers that are allowed and on numbers that are not, its
-   macros on variables, and the version, which the argument gives as pkg-config tells it. To be run under sanitizers: delta and the
-   choices stand in allocations of their own, so that a read beyond them is seen. */
+   macros on variables, and the version, which the argument gives as pkg-config tells it. To be run under sanitizers: delta, the choices
+   and a file stand in allocations of their own, so that a read beyond them is seen. */
 #include <softspoken.h>
 #include <stdio.h>
 #include <stdlib.h>
@@ -55,9 +55,39 @@ static void names(void) {
     NAMED(SOFTSPOKEN_ERR_BLOCKS);
     NAMED(SOFTSPOKEN_ERR_LENGTH);
     NAMED(SOFTSPOKEN_ERR_CHECK);
-    for (uint32_t answer = 7; answer < 1000; answer++)
+    NAMED(SOFTSPOKEN_ERR_CONTENTS);
+    NAMED(SOFTSPOKEN_ERR_BODY);
+    for (uint32_t answer = 9; answer < 1000; answer++)
         expect(!strcmp(softspoken_answer_name(answer), "unknown answer"), "an answer that there is not", answer, 0);
     expect(!strcmp(softspoken_answer_name(UINT32_MAX), "unknown answer"), "the highest number", UINT32_MAX, 0);
+}
+
+/* A body reaches from its place to the next, if both stand in the file in this order; it is empty otherwise, and for any other kind. Its
+   bytes are read, so that a part which isn't in the file is seen. */
+static void body(const struct softspoken_file *found, const uint8_t *file, size_t len, uint32_t kind, uint64_t from, uint64_t to) {
+    struct softspoken_body part = softspoken_file_body(found, file, len, kind);
+    size_t same = 0;
+    for (size_t i = 0; i < part.len; i++) same += part.bytes[i] == (uint8_t)(from + i);
+    expect(same == part.len && part.bytes >= file && part.bytes <= file + len, "bytes of a body", (uint32_t)len, kind);
+    expect(part.len == (from < to && to <= len ? to - from : 0), "length of a body", (uint32_t)len, kind);
+}
+
+/* All places are at the file's end but two neighbours, which go over numbers in the file, around its end and far beyond. */
+static void bodies(const uint8_t *file, size_t len) {
+    const uint64_t places[] = {0, 1, 2, len / 2, len - 1, len, len + 1, len + 1024, UINT32_MAX, (uint64_t)1 << 32, ((uint64_t)1 << 32) + 1,
+                               UINT64_MAX / 2, UINT64_MAX / 2 + 1, UINT64_MAX - 1, UINT64_MAX};
+    const uint32_t others[] = {0, 6, 7, 255, 256, 257, 258, 65537, UINT32_MAX - 1, UINT32_MAX};
+    const size_t count = sizeof places / sizeof *places;
+    for (size_t n = 0; n < count * count; n++)
+        for (uint32_t kind = 1; kind <= 5; kind++) {
+            const uint64_t from = places[n / count], to = places[n % count];
+            struct softspoken_file found = {SOFTSPOKEN_DONE, 1, 1, 1, len, len, len, len, len, len};
+            uint64_t *const in_order[] = {&found.setup, &found.head, &found.correction, &found.key, &found.check, &found.end};
+            *in_order[kind - 1] = from;
+            *in_order[kind] = to;
+            body(&found, file, len, kind, from, to);
+            for (size_t i = 0; i < sizeof others / sizeof *others; i++) body(&found, file, len, others[i], 0, 0);
+        }
 }
 
 int main(int argc, char **argv) {
@@ -78,6 +108,13 @@ int main(int argc, char **argv) {
         for (size_t i = 0; i < SOFTSPOKEN_CHOICES_BYTES(blocks); i++) range[i] = (uint8_t)((i + blocks) * 0x9e3779b1u >> 24);
         choices(range, blocks);
         free(range);
+    }
+    for (size_t len = 0; len < 300; len += len < 4 ? 1 : 59) {
+        uint8_t *file = (uint8_t *)malloc(len);
+        if (!file && len) return 2;
+        for (size_t i = 0; i < len; i++) file[i] = (uint8_t)i;
+        bodies(file, len);
+        free(file);
     }
     sizes();
     names();

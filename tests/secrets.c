@@ -1,6 +1,7 @@
 /* No branch and no address may depend on a secret. Contracts can't say this and a mask in the source is not enough, so the compiled
    functions run under memcheck with every secret range marked undefined: a jump or an address that depends on one is reported. */
 #include "../bench/bench.h"
+#include "file.h"
 #include "ranges.h"
 #include <stdio.h>
 #include <string.h>
@@ -122,6 +123,27 @@ static void batch(uint32_t width, uint32_t blocks) {
     verify(blocks, &sender);
 }
 
+/* A file of what travelled in the batch before, which all counts as secret here: the reader is steered by contents and head alone, and
+   tells nothing of the other bodies. Between blocks and batch the struct has bytes that mean nothing. */
+static void file(uint32_t width, uint32_t blocks) {
+    static uint8_t kept[SOFTSPOKEN_FILE_MAX];
+    const struct lengths n = lengths_for(width, blocks);
+    const size_t len = lay_file(kept, SOFTSPOKEN_FILE_SETUP, n, width, blocks, 1);
+    uint8_t *at = kept + SOFTSPOKEN_FILE_CONTENTS_BYTES(5);
+    memcpy(at, setup_message, sizeof setup_message);
+    at += sizeof setup_message + SOFTSPOKEN_FILE_HEAD_BYTES;
+    memcpy(at, correction, n.of[SOFTSPOKEN_FILE_CORRECTION]);
+    at += n.of[SOFTSPOKEN_FILE_CORRECTION];
+    hide(at, SOFTSPOKEN_FILE_KEY_BYTES);
+    memcpy(at + SOFTSPOKEN_FILE_KEY_BYTES, message, sizeof message);
+    unsigned before = VALGRIND_COUNT_ERRORS;
+    struct softspoken_file found = softspoken_file_read(kept, len);
+    expect_answer("file read", found.answer, SOFTSPOKEN_DONE);
+    expect_reports("file read", before, 0);
+    expect_public("file read", &found, offsetof(struct softspoken_file, blocks) + sizeof found.blocks);
+    expect_public("file read", &found.batch, sizeof found - offsetof(struct softspoken_file, batch));
+}
+
 /* The functions of the layers below, alone. */
 
 #define RUN(name, work, out) \
@@ -191,7 +213,9 @@ int main(int argc, char **argv) {
     for (uint32_t width = 1; width <= 8; width *= 2) {
         setups(width);
         batch(width, 1);
+        file(width, 1);
         batch(width, MOST);
+        file(width, MOST);
     }
     return failed;
 }

@@ -1,5 +1,5 @@
 #!/usr/bin/env bash
-# How much stack each exported step takes, at every width; no more than include/softspoken.h says. The C library's functions are bound at
+# How much stack each exported function takes, at every width; no more than include/softspoken.h says. The C library's functions are bound at
 # the start, so that the first call of one doesn't count.
 set -eu
 cd "$(dirname "$0")/.."

@@ -1,10 +1,13 @@
 //! Makes each call on the library and on the twin, compares all that they leave, and counts.
 
 use crate::call::{Call, Outcome, STEPS};
+use crate::files;
 use crate::library::{self, Lent, Record};
 use crate::random::Random;
 use crate::twin::batch::CHECK;
+use crate::twin::file;
 use crate::twin::setup::DONE;
+use std::ops::Range;
 
 /// A byte that differs, or that was altered on purpose. Bytes are numbered from the part's first: below 0 is the guard before it.
 #[derive(PartialEq)]
@@ -29,13 +32,20 @@ pub struct Comparison {
     made: usize,
     plant: Option<Plant>,
     differences: Vec<Place>,
-    counts: [[usize; 7]; 7],
+    /// Of each step, and then of the reads of files, the answers.
+    counts: [[usize; ANSWERS]; STEPS.len() + 1],
     /// Damaged batches, accepted and refused.
     damaged: [usize; 2],
 }
 
 /// The most differences that are printed.
 const PRINTED: usize = 10;
+
+/// How many answers there are.
+const ANSWERS: usize = 9;
+
+/// Where the reads of files are counted.
+const FILES: usize = STEPS.len();
 
 /// All that a call is lent or gives, with guards: the answer, the record and the ranges.
 fn parts(number: usize, answer: u32, record: Record, ranges: &[Vec<u8>]) -> Vec<Lent> {
@@ -55,6 +65,16 @@ fn names(call: &Call) -> Vec<&'static str> {
     [&["answer", "record"][..], call.step.read(), call.step.written()].concat()
 }
 
+/// The parts that a call wrote, of those: the ranges that the step writes where it is done, the answer where there are none.
+fn written(call: &Call, done: bool) -> Range<usize> {
+    let (first, count) = (2 + call.step.read().len(), call.step.written().len());
+    if done && count > 0 {
+        first..first + count
+    } else {
+        0..1
+    }
+}
+
 impl Comparison {
     pub fn new(seed: u64, limit: usize, plant: bool) -> Comparison {
         let mut apart = Random::new(!seed);
@@ -70,7 +90,7 @@ impl Comparison {
                 place: None,
             }),
             differences: vec![],
-            counts: [[0; 7]; 7],
+            counts: [[0; ANSWERS]; FILES + 1],
             damaged: [0; 2],
         }
     }
@@ -82,19 +102,51 @@ impl Comparison {
         }
         let outcome = call.twin();
         let expected = parts(self.made, outcome.answer, outcome.record, &outcome.ranges);
-        let mut left = library_leaves(self.made, &call);
-        if let Some(plant) = self.plant.as_mut().filter(|plant| plant.call == self.made) {
-            plant.alter(&call, outcome.answer == DONE, &mut left);
-        }
-        for ((name, mine), theirs) in names(&call).into_iter().zip(&left).zip(&expected) {
-            self.compare(&call, name, mine, theirs);
-        }
+        let left = library_leaves(self.made, &call);
+        let written = written(&call, outcome.answer == DONE);
+        self.compare(&names(&call), left, &expected, written, &|| call.told());
         self.counts[call.step as usize][outcome.answer as usize] += 1;
-        self.made += 1;
         Some(outcome)
     }
 
-    fn compare(&mut self, call: &Call, part: &'static str, library: &Lent, twin: &Lent) {
+    /// Reads a file, on the library and on the twin; nothing if all calls have been made.
+    pub fn read(&mut self, file: &[u8]) -> Option<()> {
+        if self.made == self.limit {
+            return None;
+        }
+        let (found, mut lent) = (file::read(file), Lent::new(file, self.made % 16));
+        let expected = vec![
+            Lent::new(&found.answer.to_ne_bytes(), 0),
+            Lent::new(&found.bytes(), 0),
+            lent.clone(),
+        ];
+        let given = library::read(&mut lent);
+        let left = vec![Lent::new(&given.answer.to_ne_bytes(), 0), Lent::new(&given.bytes(), 0), lent];
+        let told = || format!("file_read: {} bytes, contents {:02x?}", file.len(), &file[..file.len().min(64)]);
+        self.compare(&["answer", "found", "file"], left, &expected, 0..2, &told);
+        self.counts[FILES][found.answer as usize] += 1;
+        Some(())
+    }
+
+    /// Compares what a call left part by part, after a difference was planted in one of those written, if it is this call's turn.
+    fn compare(
+        &mut self,
+        names: &[&'static str],
+        mut left: Vec<Lent>,
+        expected: &[Lent],
+        written: Range<usize>,
+        told: &dyn Fn() -> String,
+    ) {
+        if let Some(plant) = self.plant.as_mut().filter(|plant| plant.call == self.made) {
+            plant.alter(names, written, &mut left);
+        }
+        for ((name, mine), theirs) in names.iter().zip(&left).zip(expected) {
+            self.compare_part(name, mine, theirs, told);
+        }
+        self.made += 1;
+    }
+
+    fn compare_part(&mut self, part: &'static str, library: &Lent, twin: &Lent, told: &dyn Fn() -> String) {
         assert_eq!(library.all.len(), twin.all.len());
         let at = match library.all.iter().zip(&twin.all).position(|(x, y)| x != y) {
             Some(at) => at,
@@ -102,7 +154,7 @@ impl Comparison {
         };
         let byte = at as isize - library.before as isize;
         if self.differences.len() < PRINTED {
-            println!("difference: seed {}, call {}, {}", self.seed, self.made, call.told());
+            println!("difference: seed {}, call {}, {}", self.seed, self.made, told());
             println!(
                 "  {part} of {} bytes, byte {byte}: library {:02x}, twin {:02x}",
                 library.length, library.all[at], twin.all[at]
@@ -126,17 +178,10 @@ impl Comparison {
 
     /// Prints the counts and what is wrong; the exit status.
     pub fn status(&self) -> i32 {
-        println!(
-            "{:16}{}",
-            "answer",
-            [0, 1, 2, 3, 4, 5, 6].map(|answer| format!("{answer:7}")).concat()
-        );
-        for step in STEPS {
-            println!(
-                "{:16}{}",
-                step.name(),
-                self.counts[step as usize].map(|count| format!("{count:7}")).concat()
-            );
+        let numbers: [usize; ANSWERS] = std::array::from_fn(|answer| answer);
+        println!("{:16}{}", "answer", numbers.map(|answer| format!("{answer:7}")).concat());
+        for (name, _, counts) in self.functions() {
+            println!("{name:16}{}", counts.map(|count| format!("{count:7}")).concat());
         }
         let [accepted, refused] = self.damaged;
         println!("damaged batches: {accepted} accepted, {refused} refused");
@@ -154,15 +199,21 @@ impl Comparison {
         }
     }
 
+    /// Each function's name, the answers that it can give, and how often each was given.
+    fn functions(&self) -> Vec<(&'static str, &'static [u32], [usize; ANSWERS])> {
+        let steps = STEPS.map(|step| (step.name(), step.answers()));
+        let all = steps.into_iter().chain([("file_read", &files::ANSWERS[..])]);
+        all.zip(self.counts)
+            .map(|((name, answers), counts)| (name, answers, counts))
+            .collect()
+    }
+
     /// What should have occurred and didn't: an answer, or a verdict on a damaged batch.
     fn missing(&self) -> Vec<String> {
         let mut out = vec![];
-        for step in STEPS {
-            let never = step
-                .answers()
-                .iter()
-                .filter(|answer| self.counts[step as usize][**answer as usize] == 0);
-            out.extend(never.map(|answer| format!("{} answered {answer}", step.name())));
+        for (name, answers, counts) in self.functions() {
+            let never = answers.iter().filter(|answer| counts[**answer as usize] == 0);
+            out.extend(never.map(|answer| format!("{name} answered {answer}")));
         }
         let never = ["accepted", "refused"].iter().zip(self.damaged).filter(|(_, count)| *count == 0);
         out.extend(never.map(|(verdict, _)| format!("a damaged batch was {verdict}")));
@@ -171,16 +222,15 @@ impl Comparison {
 }
 
 impl Plant {
-    /// Flips a bit of a range that the call wrote, or of the answer where it wrote none.
-    fn alter(&mut self, call: &Call, done: bool, left: &mut [Lent]) {
-        let (first, count) = (2 + call.step.read().len(), call.step.written().len());
-        let part = if done && count > 0 { first + self.random.below(count) } else { 0 };
+    /// Flips a bit of one of the parts that the call wrote.
+    fn alter(&mut self, names: &[&'static str], written: Range<usize>, left: &mut [Lent]) {
+        let part = written.start + self.random.below(written.len());
         let lent = &mut left[part];
         let byte = self.random.below(lent.length);
         lent.all[lent.before + byte] ^= 1 << self.random.below(8);
         let place = Place {
             call: self.call,
-            part: names(call)[part],
+            part: names[part],
             byte: byte as isize,
         };
         println!("planted: call {}, {} byte {}", place.call, place.part, place.byte);

@@ -33,10 +33,14 @@ pub fn allowed_blocks(random: &mut Random) -> u32 {
     1 + random.below(15) as u32
 }
 
+pub fn wrong_blocks(random: &mut Random) -> u32 {
+    let other = any(random).max(16);
+    random.pick(&[0, 16, 17, 256, MOST, other])
+}
+
 pub fn blocks(random: &mut Random) -> u32 {
     if random.one_in(6) {
-        let other = any(random);
-        random.pick(&[0, 16, 17, 256, MOST, other])
+        wrong_blocks(random)
     } else {
         allowed_blocks(random)
     }

@@ -1,4 +1,4 @@
-//! The library's seven functions, and the ranges that they are lent.
+//! The library's eight functions, and the ranges that they are lent.
 //!
 //! Nothing holds these declarations to include/softspoken.h, except that a wrong one would show as a difference.
 
@@ -19,6 +19,36 @@ impl Record {
     }
 }
 
+/// What reading a file finds: the answer, the head's values, where the bodies begin, and the file's end.
+#[repr(C)]
+#[derive(Clone, Copy)]
+pub struct File {
+    pub answer: u32,
+    pub width: u32,
+    pub blocks: u32,
+    pub batch: u64,
+    pub setup: u64,
+    pub head: u64,
+    pub correction: u64,
+    pub key: u64,
+    pub check: u64,
+    pub end: u64,
+}
+
+impl File {
+    /// The places of the five bodies, and the end.
+    pub fn places(self) -> [u64; 6] {
+        [self.setup, self.head, self.correction, self.key, self.check, self.end]
+    }
+
+    /// All but the answer, without what the struct has between its fields.
+    pub fn bytes(self) -> Vec<u8> {
+        let head = [self.width, self.blocks].map(u32::to_le_bytes).concat();
+        let rest = [&[self.batch][..], &self.places()].concat();
+        head.into_iter().chain(rest.into_iter().flat_map(u64::to_le_bytes)).collect()
+    }
+}
+
 #[rustfmt::skip]
 extern "C" {
     fn softspoken_receiver_setup(width: u32, roots: *const u8, roots_len: usize, base_pads: *const u8, base_pads_len: usize,
@@ -34,6 +64,7 @@ extern "C" {
         table: *const u8, table_len: usize, message: *mut u8, message_len: usize, pads: *mut u8, pads_len: usize) -> u32;
     fn softspoken_sender_verify(record: *mut Record, key: u64, table: *const u8, table_len: usize, delta: *const u8, delta_len: usize,
         message: *const u8, message_len: usize, pads: *mut u8, pads_len: usize) -> u32;
+    fn softspoken_file_read(file: *const u8, file_len: usize) -> File;
 }
 
 /// Bytes that a call is lent, between guard bytes, in an allocation of their own. So a pointer to them is never dangling, even where
@@ -92,4 +123,11 @@ pub fn made(call: &Call, record: &mut Lent, ranges: &mut [Lent]) -> u32 {
     };
     record.all = words.into_iter().flat_map(u32::to_ne_bytes).collect();
     answer
+}
+
+/// Lends a file.
+pub fn read(file: &mut Lent) -> File {
+    let (at, length) = file.parts();
+    // The pointer is to a live allocation, with as many bytes as the length says.
+    unsafe { softspoken_file_read(at, length) }
 }

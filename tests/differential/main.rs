@@ -1,14 +1,16 @@
-//! Plays random calls of the library's seven functions, and compares every answer, record and byte with the twin.
+//! Plays random calls of the library's eight functions, and compares every answer, record, number and byte with the twin. The calls are
+//! those of the steps; the reads of files come before them.
 //!
-//! usage: differential [--seed N] [--calls N] [--plant]
+//! usage: differential [--seed N] [--files N] [--calls N] [--plant]
 //!
 //! Run from the repository's root. Exit status 0 if the library and the twin agree and every answer was given; 1 if not. With --plant one
-//! bit of what the library leaves is altered, and the status is 1 if just that is reported, 2 if not. The calls depend on the seed alone:
-//! fewer are the first ones.
+//! bit of what the library leaves is altered, and the status is 1 if just that is reported, 2 if not. The files depend on the seed alone,
+//! and the calls on the seed and the number of files: fewer are the first ones.
 
 mod call;
 mod compare;
 mod draw;
+mod files;
 mod library;
 mod pair;
 mod random;
@@ -22,6 +24,7 @@ use std::process::exit;
 
 struct Options {
     seed: u64,
+    files: usize,
     calls: usize,
     plant: bool,
 }
@@ -29,6 +32,7 @@ struct Options {
 fn options() -> Option<Options> {
     let mut out = Options {
         seed: 8439,
+        files: 10000,
         calls: 40000,
         plant: false,
     };
@@ -36,6 +40,7 @@ fn options() -> Option<Options> {
     while let Some(option) = given.next() {
         match option.as_str() {
             "--seed" => out.seed = given.next()?.parse().ok()?,
+            "--files" => out.files = given.next()?.parse().ok()?,
             "--calls" => out.calls = given.next()?.parse().ok()?,
             "--plant" => out.plant = true,
             _ => return None,
@@ -44,7 +49,7 @@ fn options() -> Option<Options> {
     Some(out)
 }
 
-/// One play, or nothing if all calls have been made. A session has some 28 calls, so more than half of all are in sessions.
+/// One play of steps, or nothing if all calls have been made. A session has some 28 calls, so more than half of all are in sessions.
 fn play(comparison: &mut Comparison) -> Option<()> {
     match comparison.random.below(1000) {
         0 => singles::sweep(comparison),
@@ -55,13 +60,17 @@ fn play(comparison: &mut Comparison) -> Option<()> {
 
 fn main() {
     let options = options().unwrap_or_else(|| {
-        eprintln!("usage: differential [--seed N] [--calls N] [--plant]");
+        eprintln!("usage: differential [--seed N] [--files N] [--calls N] [--plant]");
         exit(2)
     });
     stored::published();
     stored::setups();
     stored::sessions();
-    let mut comparison = Comparison::new(options.seed, options.calls, options.plant);
+    stored::files();
+    let mut comparison = Comparison::new(options.seed, options.files + options.calls, options.plant);
+    for _ in 0..options.files {
+        files::play(&mut comparison);
+    }
     let mut played = singles::sweep(&mut comparison); // so that no run is without one
     while played.is_some() {
         played = play(&mut comparison);

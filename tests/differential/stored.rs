@@ -1,4 +1,5 @@
-//! Holds the twin to published vectors, and to the cases that reference/write.py stored (its setup_cases and session_cases).
+//! Holds the twin to published vectors, and to the cases that reference/write.py stored (its setup_cases and session_cases, and those of
+//! reference/filecases.py).
 
 use crate::call::BATCH;
 use crate::library::Record;
@@ -6,10 +7,13 @@ use crate::pair::{side_of, Pair, RECEIVER, SENDER};
 use crate::random::Random;
 use crate::twin::batch::open_session;
 use crate::twin::setup::{receiver_setup, receiver_setup_lengths, sender_pads, sender_setup, sender_setup_lengths, DONE, WIDTHS};
-use crate::twin::{chacha20, gf64, sha256, sizes};
+use crate::twin::{chacha20, file, gf64, sha256, sizes};
+
+fn hex(bytes: &[u8]) -> String {
+    bytes.iter().map(|x| format!("{x:02x}")).collect()
+}
 
 pub fn published() {
-    let hex = |bytes: &[u8]| bytes.iter().map(|x| format!("{x:02x}")).collect::<String>();
     // RFC 8439, 2.3.2
     let block = chacha20::block(&std::array::from_fn(|i| i as u8), 1, &[0, 0, 0, 9, 0, 0, 0, 0x4a, 0, 0, 0, 0]);
     let expected = "10f1e7e4d13b5915500fdd1fa32071c4c7d1f4c733c068030422aa9ac3d46c4e\
@@ -46,6 +50,10 @@ impl Stored {
 
     fn number(&mut self) -> u32 {
         u32::from_le_bytes(self.bytes(4).try_into().unwrap())
+    }
+
+    fn ended(&self) -> bool {
+        self.at == self.data.len()
     }
 
     fn end(&self) {
@@ -109,4 +117,55 @@ fn session(width: u32, mut file: Stored) {
         }
     }
     file.end();
+}
+
+/// The files that the program files reads, and what it must print of each.
+pub fn files() {
+    let mut records = Stored::new("crates/files/stdin");
+    let printed = Stored::new("crates/files/stdout").data;
+    let mut lines = std::str::from_utf8(&printed).unwrap().lines();
+    let mut under = (u32::MAX, vec![]);
+    while !records.ended() {
+        let (kind, length) = (records.bytes(1), records.number() as usize);
+        assert!(kind == [1], "a record of another kind");
+        let end = records.at + length;
+        let (length, seed) = (records.number() as usize, records.number());
+        if under.0 != seed {
+            under = (seed, derived(seed));
+        }
+        let mut file = under.1[..length].to_vec();
+        while records.at < end {
+            let (at, count) = (records.number() as usize, records.number() as usize);
+            file[at..at + count].copy_from_slice(&records.bytes(count));
+        }
+        assert!(
+            records.at == end && lines.next() == Some(&told(&file)),
+            "file at {end} of the records"
+        );
+    }
+    assert!(lines.next().is_none(), "a line too many");
+}
+
+/// What a file of a record holds where it doesn't say so: as much as the program derives.
+fn derived(seed: u32) -> Vec<u8> {
+    (0..1921u32)
+        .flat_map(|j| sha256::digest(&[seed, 0, j].map(u32::to_le_bytes).concat()))
+        .collect()
+}
+
+/// The line that a file gives: what reading finds, and of each kind from 0 to 6 the body that lies between its place and the next.
+fn told(data: &[u8]) -> String {
+    let (found, mut line) = (file::read(data), vec![]);
+    let places = found.places().map(|place| place as usize);
+    line.push(found.answer as u8);
+    line.extend(found.bytes());
+    for kind in 0..=6 {
+        let body = match kind {
+            1..=5 => &data[places[kind - 1]..places[kind]],
+            _ => &[],
+        };
+        line.extend(&sha256::digest(body)[..8]);
+        line.extend((body.len() as u64).to_le_bytes());
+    }
+    hex(&line)
 }

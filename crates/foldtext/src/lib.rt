@@ -19,7 +19,7 @@ fn is_input(n: usize) -> bool
     n <= 136 && n % 8 == 0
 }
 
-fn digit(d: u64) -> u8
+pub fn digit(d: u64) -> u8
     requires { ⌜ d < 16 ⌝ }
     ensures { λ r. ⌜ r ≡ hexDigit d ⌝ }
 {

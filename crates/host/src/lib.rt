@@ -2,9 +2,11 @@
 mod numbered;
 
 use rules::Record;
+ghost use mathlib.Core.Path.{_≡_};
 ghost use Rattle.answer.specs.Answer.{Numbered};
 ghost use Rattle.setup.specs.Setup.{ReceiverSetup, SenderSetup};
 ghost use Rattle.session.specs.Steps.{OpenSession, ReceiverStart, SenderCorrect, ReceiverAnswer, SenderVerify};
+ghost use Rattle.host.specs.File.{fileRead};
 
 // The receiver's setup. It returns the answer's number.
 #[no_mangle]
@@ -113,4 +115,43 @@ pub extern "C" fn softspoken_sender_verify(
     let s = numbered::sender_verify(*rec, key, table, delta, message, pads);
     *rec = s.record;
     s.number
+}
+
+// What reading a file gives back: the answer's number, the head's values, where each body begins, and the file's end. A body reaches from its
+// place to the next.
+#[repr(C)]
+pub struct FileRead {
+    pub answer: u32,
+    pub width: u32,
+    pub blocks: u32,
+    pub batch: u64,
+    pub setup: u64,
+    pub head: u64,
+    pub correction: u64,
+    pub key: u64,
+    pub check: u64,
+    pub end: u64,
+}
+
+// Reads a batch on file, whatever it holds. Nothing of it is copied.
+#[no_mangle]
+pub extern "C" fn softspoken_file_read(file: &[u8]) -> FileRead
+    ensures { λ r. ⌜ r ≡ fileRead (now (file .entry)) ⌝ }
+{
+    let found = batchfile::find(file);
+    let answer = found.answer;
+    let head = found.head;
+    let at = found.places;
+    FileRead {
+        answer: answer::number_of(answer),
+        width: head.width,
+        blocks: head.blocks,
+        batch: head.batch,
+        setup: at.setup as u64,
+        head: at.head as u64,
+        correction: at.correction as u64,
+        key: at.key as u64,
+        check: at.check as u64,
+        end: file.len() as u64,
+    }
 }

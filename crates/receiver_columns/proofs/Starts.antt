@@ -1,18 +1,19 @@
 -- What a walk of four trees gives the receiver, as bytes, and where the sums u go. Assumes nothing.
 use mathlib.Core.Path.{_≡_, sym, ap, ap₂, _∙_, subst}
-use mathlib.Core.List.{List, [], _++_, append-assoc}
+use mathlib.Core.List.{List, _++_, append-assoc}
 use Prim.Native.Nat.{ℕ, suc, _+_, _-_, _*_, _/_, _%_, _≤_, _<_}
 use native.Mathlib.Nat.{add-mul, mul-le-mul-right}
 use native.Mathlib.Numerals.{add-one}
 use native.Mathlib.Omega.{arith}
-use lib.ListN.{length, getD, take, drop, replicate, length-replicate, length-append, take-append-drop}
-use lib.Seq.{getD-take, take-at, drop-at, drop-drop, length-take-le, take-append-add, drop-append-add, drop-append-seam}
+use lib.ListN.{length, getD, take, drop, replicate, length-replicate}
+use lib.Seq.{getD-take, take-at, drop-at, drop-drop, take-append-add, drop-append-add, drop-append-seam}
 use borrow.Rule.Slice.PartMut.{putMid}
 use Rattle.words.specs.Bytes.{bytes, part, tabulate, concat, put}
 use Rattle.words.specs.Lanes.{laneBytes}
 use Rattle.words.specs.Xor.{xorEach, xorList}
 use Rattle.words.proofs.Lists.{tabulate-length, tabulate-at, zeros-at, zeros-sum}
 use Rattle.words.proofs.Concat.{place-fits, part-at, place-part, concat-same, concat-add, concat-length, concat-part}
+use Rattle.words.proofs.Parts.{put-put}
 use Rattle.words.proofs.Layouts.{Laid, laid-more}
 use Rattle.words.proofs.LaneBytes.{lane-is}
 use Rattle.chacha20_four.specs.FourStates.{keyIn}
@@ -91,30 +92,6 @@ roots-from f i roots =
 
 -- ---- the sums u go one after the other into choices and correction
 
--- a range laid after one that was laid before it
-put-next : (xs s t : List ℕ) (a : ℕ) → a + length s ≤ length xs → put (put xs a s) (a + length s) t ≡ put xs a (s ++ t)
-unfolding put
-put-next xs s t a fits =
-    let after : List ℕ = drop (a + length s) xs in
-    let front : length (take a xs ++ s) ≡ a + length s = length-append (take a xs) s ∙ ap (λ (n : ℕ). n + length s) (length-take-le a xs (omega arith)) in
-    let apart : take a xs ++ (s ++ after) ≡ (take a xs ++ s) ++ after = sym (append-assoc (take a xs) s after) in
-    let rest : a + length s + length t ≡ a + length (s ++ t) = omega (arith, length-append s t) in
-    ap₂ (λ (x y : List ℕ). x ++ (t ++ y))
-    (ap (take (a + length s)) apart ∙ take-at (take a xs ++ s) after (a + length s) front)
-    (ap (drop (a + length s + length t)) apart
-    ∙ sym (drop-drop (length t) (a + length s) ((take a xs ++ s) ++ after))
-    ∙ ap (drop (length t)) (drop-at (take a xs ++ s) after (a + length s) front)
-    ∙ drop-drop (length t) (a + length s) xs
-    ∙ ap (λ (n : ℕ). drop n xs) rest)
-    ∙ append-assoc (take a xs) s (t ++ drop (a + length (s ++ t)) xs)
-    ∙ ap (λ (x : List ℕ). take a xs ++ x) (sym (append-assoc s t (drop (a + length (s ++ t)) xs)))
-
-pub put-none : (xs : List ℕ) (a : ℕ) → xs ≡ put xs a []
-unfolding put
-put-none xs a =
-    let here : a ≡ a + 0 = omega arith in
-    sym (take-append-drop a xs) ∙ ap (λ (n : ℕ). take a xs ++ drop n xs) here
-
 concat-next : (l : ℕ) (f : ℕ → List ℕ) → concat (l + 1) f ≡ concat l f ++ f l
 unfolding concat
 concat-next l f = ap (λ (n : ℕ). concat n f) (add-one l)
@@ -128,7 +105,7 @@ handed-next f m l i xs ys zs each fits lt had more =
     let low : i + l ≤ i + 4 = omega arith in
     more
     ∙ ap₂ (λ (y : List ℕ) (a : ℕ). put y a (f l)) had place
-    ∙ put-next xs (concat l f) (f l) (i * m) (omega (arith, place, mul-le-mul-right m low, fits))
+    ∙ put-put xs (concat l f) (f l) (i * m) (omega (arith, place, mul-le-mul-right m low, fits))
     ∙ ap (put xs (i * m)) (sym (concat-next l f))
 
 -- tree 0's goes into the choices

@@ -1,13 +1,14 @@
 -- What a step that is done tells of the numbers and the lengths that it was given. Assumes nothing.
 use mathlib.Core.Path.{_≡_, refl}
-use mathlib.Core.Bool.{true}
-use Prim.Native.Nat.{ℕ, _≤_}
-use borrow.Author.Tests.{eqb-true}
+use mathlib.Core.Bool.{Bool, true, _&&_, and-eq-true-iff}
+use Prim.Native.Nat.{ℕ, _≤_, _<_}
+use lib.Dec.{eqb}
+use borrow.Author.Tests.{eqb-true, ltb-true, eq-eqb}
 use Rattle.answer.specs.Answer.{isDone, firstOf}
 use Rattle.answer.proofs.Order.{AllHold, all-hold}
-use Rattle.sizes.specs.Sizes.{widthAllowed, columnLength, deltaLength, rootsLength, siblingsLength, tableLength, correctionLength, checkMessageLength, receiverPadsLength, senderPadsLength}
+use Rattle.sizes.specs.Sizes.{widthAllowed, columnLength, deltaLength, rootsLength, siblingsLength, tableLength, correctionLength, checkMessageLength, receiverPadsLength, senderPadsLength, keyLength}
 use Rattle.rules.specs.declared.Record.{Record}
-use Rattle.rules.specs.Orders.{startOrder, correctOrder, answerOrder, beforeCheck}
+use Rattle.rules.specs.Orders.{mostBlocks, startOrder, correctOrder, answerOrder, beforeCheck, setupRight, bodiesRight, fileOrder}
 use Rattle.rules.proofs.Allowed.{blocks-fit}
 
 -- the receiver's start
@@ -99,3 +100,46 @@ verify-fits r table delta message pads h =
       message-long = eqb-true message _ (lengths .1 .1 .0);
       pads-long = eqb-true pads _ (lengths .1 .1 .1 .0);
     }
+
+-- a batch on file
+pub record FileTells (width batch blocks : ℕ) (there : Bool) (setup correction key check : ℕ) : Type 0 where
+  pub width-right : widthAllowed width ≡ true
+  pub some : 0 < batch
+  pub least : 1 ≤ blocks
+  pub few : blocks ≤ mostBlocks
+  pub setup-long : setupRight there setup ≡ true
+  pub correction-long : correction ≡ correctionLength width blocks
+  pub key-long : key ≡ keyLength
+  pub check-long : check ≡ checkMessageLength
+
+pub file-fits : (width batch blocks : ℕ) (there : Bool) (setup correction key check : ℕ) → AllHold (fileOrder width batch blocks there setup correction key check)
+    → FileTells width batch blocks there setup correction key check
+file-fits width batch blocks there setup correction key check h =
+    let named : ℕ = correctionLength width blocks in
+    let blocks-hold = h .1 .1 in
+    let bodies = and-eq-true-iff (setupRight there setup) (eqb key keyLength && (eqb check checkMessageLength && eqb correction named)) .0 (blocks-hold .1 .0) in
+    let others = and-eq-true-iff (eqb key keyLength) (eqb check checkMessageLength && eqb correction named) .0 (bodies .1) in
+    let last = and-eq-true-iff (eqb check checkMessageLength) (eqb correction named) .0 (others .1) in
+    record {
+      width-right = h .0;
+      some = ltb-true 0 batch (h .1 .0);
+      least = blocks-fit blocks (blocks-hold .0) .0;
+      few = blocks-fit blocks (blocks-hold .0) .1;
+      setup-long = bodies .0;
+      correction-long = eqb-true correction named (last .1);
+      key-long = eqb-true key keyLength (others .0);
+      check-long = eqb-true check checkMessageLength (last .0);
+    }
+
+-- and its bodies have their lengths where each has
+pub bodies-right : (width blocks : ℕ) (there : Bool) (setup correction key check : ℕ) → setupRight there setup ≡ true → key ≡ keyLength → check ≡ checkMessageLength
+    → correction ≡ correctionLength width blocks → bodiesRight width blocks there setup correction key check ≡ true
+bodies-right width blocks there setup correction key check s k m e =
+    let named : ℕ = correctionLength width blocks in
+    and-eq-true-iff (setupRight there setup) (eqb key keyLength && (eqb check checkMessageLength && eqb correction named)) .1 (
+      s,
+      and-eq-true-iff (eqb key keyLength) (eqb check checkMessageLength && eqb correction named) .1 (
+        eq-eqb key keyLength k,
+        and-eq-true-iff (eqb check checkMessageLength) (eqb correction named) .1 (eq-eqb check checkMessageLength m, eq-eqb correction named e),
+      ),
+    )

@@ -1,13 +1,14 @@
--- The record of a session, and in which order each step refuses. Paper 01, 'Steps and their turning away'. Assumes nothing.
-use mathlib.Core.Bool.{Bool, _&&_}
+-- The record of a session, and in which order each step refuses. Paper 01, 'Steps and their turning away'; paper 02. Assumes nothing.
+use mathlib.Core.Bool.{Bool, not, _&&_, _||_}
 use mathlib.Core.List.{[], _∷_, _++_}
 use Prim.Native.Nat.{ℕ}
 use lib.Dec.{eqb, leb, ltb}
 use Rattle.sizes.specs.Sizes.{widthAllowed, deltaLength, rootsLength, receiverBasePadsLength, senderBasePadsLength}
 use Rattle.sizes.specs.Sizes.{setupMessageLength, siblingsLength}
 use Rattle.sizes.specs.Sizes.{columnLength, tableLength, correctionLength, checkMessageLength, receiverPadsLength, senderPadsLength}
+use Rattle.sizes.specs.Sizes.{headLength, keyLength}
 use Rattle.answer.specs.declared.Answer.{Answer}
-use Rattle.answer.specs.declared.Answer.the-variants.{Width, Stage, Batch, Blocks, Length, Check}
+use Rattle.answer.specs.declared.Answer.the-variants.{Width, Stage, Batch, Blocks, Length, Check, Body}
 use Rattle.answer.specs.Answer.{Order}
 use Rattle.rules.specs.declared.Record.{Record}
 
@@ -42,8 +43,11 @@ closed r = record { width = r .width; last = r .last; blocks = r .blocks; stage 
 -- ---- conditions
 
 -- a batch has 1 to 15 blocks
+abbrev pub mostBlocks : ℕ
+mostBlocks = 15
+
 abbrev pub blocksAllowed : (blocks : ℕ) → Bool
-blocksAllowed blocks = leb 1 blocks && leb blocks 15
+blocksAllowed blocks = leb 1 blocks && leb blocks mostBlocks
 
 -- 3 if the number is 0 or not above the last
 abbrev pub batchFollows : (last batch : ℕ) → Bool
@@ -135,3 +139,27 @@ beforeCheck r table delta message pads =
 -- then 6
 abbrev pub verifyOrder : (r : Record) (table delta message pads : ℕ) (accepted : Bool) → Order
 verifyOrder r table delta message pads accepted = beforeCheck r table delta message pads ++ ((accepted, Check) ∷ [])
+
+-- ---- a batch on file. Paper 02, note 1
+
+-- head values keep paper 01's bounds: 1, 3 for batch 0, and 4
+abbrev pub headOrder : (width batch blocks : ℕ) → Order
+headOrder width batch blocks = (widthAllowed width, Width) ∷ (ltb 0 batch, Batch) ∷ (blocksAllowed blocks, Blocks) ∷ []
+
+-- a body enters by its length. The head's is 6
+abbrev pub headRight : (head : ℕ) → Bool
+headRight head = eqb head headLength
+
+-- the setup's 8,192, where it is present
+abbrev pub setupRight : (present : Bool) (setup : ℕ) → Bool
+setupRight present setup = not present || eqb setup setupMessageLength
+
+-- of all but the head: the key's 8, the check's 1,032, the correction's by the head's values
+abbrev pub bodiesRight : (width blocks : ℕ) (present : Bool) (setup correction key check : ℕ) → Bool
+bodiesRight width blocks present setup correction key check =
+    setupRight present setup && (eqb key keyLength && (eqb check checkMessageLength && eqb correction (correctionLength width blocks)))
+
+-- last 8 if a body's length isn't the one its kind has for that head
+abbrev pub fileOrder : (width batch blocks : ℕ) (present : Bool) (setup correction key check : ℕ) → Order
+fileOrder width batch blocks present setup correction key check =
+    headOrder width batch blocks ++ ((bodiesRight width blocks present setup correction key check, Body) ∷ [])

@@ -19,6 +19,8 @@ pub const OPEN: u32 = 1;
 
 const CLOSED: u32 = 2;
 
+pub const MOST_BLOCKS: u32 = 15;
+
 // The record of a session that is opened.
 pub fn new_record(width: u32) -> Record
     ensures { λ x. ⌜ x ≡ newRecord width ⌝ }
@@ -74,7 +76,7 @@ pub fn blocks_allowed(blocks: u32) -> bool
     if blocks < 1 {
         return false;
     }
-    blocks <= 15
+    blocks <= MOST_BLOCKS
 }
 
 // Whether a batch number may follow the last.

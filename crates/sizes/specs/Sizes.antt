@@ -1,5 +1,5 @@
 -- Widths, columns, trees, and the length of every byte range that a step is lent. Paper 01, 'Words and layouts' and 'Steps and their
--- turning away'. Assumes nothing.
+-- turning away'; of a batch on file, paper 02, note 1. Assumes nothing.
 use mathlib.Core.Bool.{Bool, _||_}
 use Prim.Native.Nat.{ℕ, _+_, _-_, _*_, _/_}
 use lib.Dec.{eqb}
@@ -67,3 +67,17 @@ receiverPadsLength blocks = 32 * transfers blocks
 
 abbrev pub senderPadsLength : (blocks : ℕ) → ℕ
 senderPadsLength blocks = 64 * transfers blocks
+
+-- ---- a batch on file
+
+-- the contents: a 4-byte count, then per entry kind, offset and length, 4 bytes each
+abbrev pub contentsLength : (count : ℕ) → ℕ
+contentsLength count = 4 + 12 * count
+
+-- the head: width 1 byte, blocks 1, batch 4
+abbrev pub headLength : ℕ
+headLength = 6
+
+-- the key, a 64-bit number
+abbrev pub keyLength : ℕ
+keyLength = 8

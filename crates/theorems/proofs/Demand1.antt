@@ -6,11 +6,15 @@ use Prim.Native.Nat.{ℕ}
 use lib.Dec.{eqb}
 use Rattle.answer.specs.declared.Answer.{Answer}
 use Rattle.answer.specs.declared.Answer.the-variants.{Check}
-use Rattle.answer.specs.Answer.{number, isDone, Order, firstOf, Among}
+use Rattle.words.specs.Bytes.{Range}
+use Rattle.answer.specs.Answer.{number, isDone, Order, firstOf, Among, Numbered}
 use Rattle.answer.proofs.Order.{old-when, cond-ap, eachRefusal, refusing, member, unchecked, first-among, not-failed, not-done}
 use Rattle.rules.specs.declared.Record.{Record}
 use Rattle.rules.specs.Orders.{closed}
-use Rattle.theorems.specs.Demand1.{Lent, ranges, session, Call, receiver-setup, sender-setup, open-session, receiver-start, sender-correct, receiver-answer, sender-verify, shut, Demand1}
+use Rattle.batchfile.specs.File.{headFound, placesFound, readOrder, readAnswer}
+use Rattle.host.specs.declared.FileRead.{FileRead}
+use Rattle.host.specs.File.{fileRead}
+use Rattle.theorems.specs.Demand1.{Lent, ranges, session, Call, receiver-setup, sender-setup, open-session, receiver-start, sender-correct, receiver-answer, sender-verify, read-file, shut, Demand1}
 
 -- a call that can't fail the check, and that leaves what it was lent where it isn't done. The tests of its order compute
 plain : (ns : List ℕ) (cs : Order) (a : Answer) (before after : Lent) → a ≡ firstOf cs → (isDone a ≡ false → after ≡ before)
@@ -21,6 +25,7 @@ plain ns cs a before after e same listed r u = record {
 }
 
 pub demand1 : {refusals : List ℕ} {answer : Answer} {before after : Lent} → Call refusals answer before after → Demand1 refusals answer before after
+unfolding readAnswer
 demand1 (receiver-setup {answer = a} p) =
     plain (1 ∷ 5 ∷ []) _ a _ _ (p .answered) (λ q. ap (λ (m : List ℕ). ranges (m ∷ [])) (p .written ∙ old-when a _ _ q)) refl refl refl
 demand1 (sender-setup {answer = a} p) =
@@ -45,4 +50,14 @@ demand1 (sender-verify {r} {pads = pads} {answer = a} p) = record {
       let q = not-done _ a refl (p .answered) ne in
       (λ i. session ((p .recorded ∙ old-when a _ _ q) i) ((p .padded ∙ old-when a _ _ q) i ∷ []))
       ∙ cond-ap (λ (x : Record). session x (pads ∷ [])) (eqb (number a) (number Check)) (closed r) r;
+}
+demand1 (read-file {file = file} {answer = a} p) = plain (7 ∷ 8 ∷ 1 ∷ 3 ∷ 4 ∷ 8 ∷ []) (readOrder file) a _ _ (p .answered) (λ q. refl) refl refl refl
+
+-- what C is given back of a file is told by such a call
+pub read-from-c : (file : Range) (x : FileRead) → x ≡ fileRead file
+    → Numbered (λ answer. Call (7 ∷ 8 ∷ 1 ∷ 3 ∷ 4 ∷ 8 ∷ []) answer (ranges []) (ranges [])) (x .answer)
+read-from-c file x e = record {
+  answer = readAnswer file;
+  kept = read-file {file = file} {head = headFound file} {places = placesFound file} (record { answered = refl; headed = refl; placed = refl });
+  numbered = ap (λ (r : FileRead). r .answer) e;
 }

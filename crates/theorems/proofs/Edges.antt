@@ -1,14 +1,14 @@
--- The sizes and edge cases of paper 01 that are no rows of the table of cases. Assumes nothing.
+-- The sizes and edge cases of paper 01 that are no rows of the table of cases, and those of paper 02. Assumes nothing.
 use mathlib.Core.Path.{_≡_, refl, sym, ap, _∙_}
 use mathlib.Core.Bool.{Bool, true, false, not, _&&_}
 use mathlib.Core.List.{List, [], _∷_, _++_}
 use mathlib.Core.Logic.{_⊎_, inl, inr}
-use Prim.Native.Nat.{ℕ, _+_, _*_, _/_, _^_, _<_}
+use Prim.Native.Nat.{ℕ, _+_, _-_, _*_, _/_, _^_, _≤_, _<_}
 use native.Mathlib.Omega.{arith}
 use lib.Dec.{eqb, ltb}
-use lib.ListN.{replicate}
+use lib.ListN.{length, replicate}
 use borrow.Author.Tests.{eq-eqb, lt-ltb, le-ltb}
-use Rattle.words.specs.Bytes.{part}
+use Rattle.words.specs.Bytes.{Range, part}
 use Rattle.words.specs.Xor.{xorList}
 use Rattle.words.proofs.Lists.{scale-zero, scale-one}
 use Rattle.sizes.specs.Sizes.{widthAllowed, columns, columnLength, correctionLength}
@@ -24,6 +24,10 @@ use Rattle.rules.specs.Orders.{startOrder, correctOrder, answerOrder, beforeChe
 use Rattle.rules.proofs.Allowed.{batch-follows}
 use Rattle.rules.proofs.Fits.{start-fits, correct-fits, answer-fits, verify-fits}
 use Rattle.setup.proofs.Answers.{receiver-fits, sender-fits}
+use Rattle.batchfile.specs.declared.FileHead.{FileHead}
+use Rattle.batchfile.specs.File.{contentsRight, bodyOf, headOf, readAnswer, Taken}
+use Rattle.batchfile.proofs.Reading.{values-next}
+use Rattle.batchfile.proofs.Taken.{taken-tells, setup-long, longest}
 use Rattle.theorems.proofs.Demand2.{given-pad}
 
 -- ---- the sizes: a step that is done was given ranges of paper 01's lengths
@@ -86,6 +90,17 @@ module _ (r : Record) (batch : ℕ) where
   least-correct siblings delta correction table eight done =
       correct-fits r batch 1 siblings delta correction table (ap isDone done) .correction-long ∙ ap (λ (k : ℕ). correctionLength k 1) eight
 
+-- a file that the reader takes: paper 02, note 1, in numbers
+pub file-sizes : (file : Range) → Taken file
+    → (length (bodyOf file 2) ≡ 6) × ((length (bodyOf file 1) ≡ 0) ⊎ (length (bodyOf file 1) ≡ 8192))
+    × (length (bodyOf file 3) ≡ (128 / headOf file .width - 1) * (8 * (headOf file .blocks + 1)))
+    × (length (bodyOf file 4) ≡ 8)
+    × (length (bodyOf file 5) ≡ 1032)
+    × (length file ≤ 25558)
+file-sizes file taken =
+    let told = taken-tells file taken in
+    (told .head-long, setup-long file taken, told .values .correction-long, told .values .key-long, told .values .check-long, longest file taken)
+
 -- ---- refusals
 
 -- width 3, with whatever else: 1. Of a session's steps, by its record, whatever is asked after it
@@ -132,6 +147,26 @@ blocks-outside-end r rest allowed isOpen some which =
     outside : (r .blocks ≡ 0) ⊎ (r .blocks ≡ 16) → blocksAllowed (r .blocks) ≡ false
     outside (inl e) = ap blocksAllowed e
     outside (inr e) = ap blocksAllowed e
+
+-- the same of a file whose contents are right, and whose head has 6 bytes: width 3, 1
+module _ (file : Range) (right : contentsRight file ≡ true) (six : length (bodyOf file 2) ≡ 6) where
+  pub file-width-three : headOf file .width ≡ 3 → readAnswer file ≡ Width
+  unfolding widthAllowed
+  file-width-three three =
+      values-next file right (eq-eqb (length (bodyOf file 2)) 6 six)
+      ∙ refused-at [] _ (widthAllowed (headOf file .width)) Width tt (ap widthAllowed three)
+
+  -- P 0 or 16: 4
+  pub file-blocks-outside : widthAllowed (headOf file .width) ≡ true → 0 < headOf file .batch → (headOf file .blocks ≡ 0) ⊎ (headOf file .blocks ≡ 16)
+      → readAnswer file ≡ Blocks
+  file-blocks-outside allowed some which =
+      let h : FileHead = headOf file in
+      values-next file right (eq-eqb (length (bodyOf file 2)) 6 six)
+      ∙ refused-at ((widthAllowed (h .width), Width) ∷ (ltb 0 (h .batch), Batch) ∷ []) _ (blocksAllowed (h .blocks)) Blocks (allowed, (lt-ltb 0 (h .batch) some, tt)) (outside which)
+    where
+      outside : (headOf file .blocks ≡ 0) ⊎ (headOf file .blocks ≡ 16) → blocksAllowed (headOf file .blocks) ≡ false
+      outside (inl e) = ap blocksAllowed e
+      outside (inr e) = ap blocksAllowed e
 
 -- D = 0 is allowed: no step asks more of it than its length. The sender's two pads of a row are then equal
 pub zero-delta : (blocks batch j : ℕ) (table : List ℕ) → j < 64 * blocks

@@ -16,6 +16,9 @@ use Rattle.rules.specs.declared.Record.{Record}
 use Rattle.rules.specs.Orders.{newRecord, withBatch, withoutBatch, closed}
 use Rattle.rules.specs.Orders.{receiverSetupOrder, senderSetupOrder, sessionOrder, startOrder, correctOrder, answerOrder, verifyOrder}
 use Rattle.session.specs.Steps.{OpenSession, ReceiverStart, SenderCorrect, ReceiverAnswer, SenderVerify}
+use Rattle.batchfile.specs.declared.FileHead.{FileHead}
+use Rattle.batchfile.specs.declared.Places.{Places}
+use Rattle.batchfile.specs.File.{readAnswer, headFound, placesFound, ReadFile}
 
 -- an answer and what the step leaves, of which its promise holds
 pub record Gives (A : Type 0) (P : Answer → A → Type 0) : Type 0 where
@@ -101,3 +104,7 @@ sender-verify-gives r key table delta message pads =
       );
       promised = record { answered = refl; recorded = refl; padded = refl };
     }
+
+pub read-file-gives : (file : Range) → Gives (FileHead × Places) (λ a found. ReadFile file a (found .0) (found .1))
+read-file-gives file =
+    record { answer = readAnswer file; left = (headFound file, placesFound file); promised = record { answered = refl; headed = refl; placed = refl } }

@@ -17,6 +17,9 @@ use denote.Triple.Clauses.{Ended, Clauses, AtExit}
 use Rattle.answer.specs.Answer.{Numbered}
 use Rattle.setup.specs.Setup.{ReceiverSetup, SenderSetup}
 use Rattle.session.specs.Steps.{OpenSession, ReceiverStart, SenderCorrect, ReceiverAnswer, SenderVerify}
+use Rattle.batchfile.specs.File.{ReadFile}
+use Rattle.filereader.specs.Reading.{readerOver, HandsOut}
+use Rattle.host.specs.File.{fileRead}
 use Rattle.host.proofs.softspoken_receiver_setup as softspoken-receiver-setup
 use Rattle.host.proofs.softspoken_receiver_setup.Statement as softspoken-receiver-setup-stated
 use Rattle.host.proofs.softspoken_receiver_setup.Met as softspoken-receiver-setup-thm
@@ -59,6 +62,21 @@ use Rattle.session.proofs.receiver_answer.Met as receiver-answer-thm
 use Rattle.session.proofs.sender_verify as sender-verify
 use Rattle.session.proofs.sender_verify.Statement as sender-verify-stated
 use Rattle.session.proofs.sender_verify.Met as sender-verify-thm
+use Rattle.host.proofs.softspoken_file_read as softspoken-file-read
+use Rattle.host.proofs.softspoken_file_read.Statement as softspoken-file-read-stated
+use Rattle.host.proofs.softspoken_file_read.Met as softspoken-file-read-thm
+use Rattle.batchfile.proofs.find as find
+use Rattle.batchfile.proofs.find.Statement as find-stated
+use Rattle.batchfile.proofs.find.Met as find-thm
+use Rattle.filereader.proofs.read as read
+use Rattle.filereader.proofs.read.Statement as read-stated
+use Rattle.filereader.proofs.read.Met as read-thm
+use Rattle.filereader.proofs.body as body
+use Rattle.filereader.proofs.body.Statement as body-stated
+use Rattle.filereader.proofs.body.Met as body-thm
+use Rattle.filereader.proofs.body_of as body-of
+use Rattle.filereader.proofs.body_of.Statement as body-of-stated
+use Rattle.filereader.proofs.body_of.Met as body-of-thm
 
 module _ {M : Type 1} (𝓤 : URA M) (H : Heap 𝓤) (A : Atoms 𝓤) (mem : Memory → SProp 𝓤) (run : Routine → Fun 𝓤) where
   -- a contract is φ and nothing else: of the arguments, the result, and the parameters at exit
@@ -94,6 +112,10 @@ module _ {M : Type 1} (𝓤 : URA M) (H : Heap 𝓤) (A : Atoms 𝓤) (mem : Mem
   pub softspoken-sender-verify-promises : Promises softspoken-sender-verify.ended (softspoken-sender-verify.clauses 𝓤 H A mem run) (λ κs a x e. Numbered (λ answer. SenderVerify (now (a .0)) (a .1 .0) (now (a .1 .1 .0)) (now (a .1 .1 .1 .0)) (now (a .1 .1 .1 .1 .0)) (now (a .1 .1 .1 .1 .1 .0)) answer (now (e .0)) (now (e .1 .1 .1 .1 .1 .0))) x)
   softspoken-sender-verify-promises = record { no-ghost = λ κs a. refl; no-requires = λ κs a g. refl; ensured = λ κs a g x e. refl }
 
+  -- a file's reader gives back a struct of numbers
+  pub softspoken-file-read-promises : Promises softspoken-file-read.ended (softspoken-file-read.clauses 𝓤 H A mem run) (λ κs a x e. x ≡ fileRead (now (a .0)))
+  softspoken-file-read-promises = record { no-ghost = λ κs a. refl; no-requires = λ κs a g. refl; ensured = λ κs a g x e. refl }
+
   -- ---- the same steps by value
 
   pub receiver-setup-promises : Promises receiver-setup.ended (receiver-setup.clauses 𝓤 H A mem run) (λ κs a x e. ReceiverSetup (a .0) (now (a .1 .0)) (now (a .1 .1 .0)) (now (a .1 .1 .1 .0)) x (now (e .1 .1 .1 .0)))
@@ -116,6 +138,20 @@ module _ {M : Type 1} (𝓤 : URA M) (H : Heap 𝓤) (A : Atoms 𝓤) (mem : Mem
 
   pub sender-verify-promises : Promises sender-verify.ended (sender-verify.clauses 𝓤 H A mem run) (λ κs a x e. SenderVerify (a .0) (a .1 .0) (now (a .1 .1 .0)) (now (a .1 .1 .1 .0)) (now (a .1 .1 .1 .1 .0)) (now (a .1 .1 .1 .1 .1 .0)) (x .answer) (x .«record») (now (e .1 .1 .1 .1 .1 .0)))
   sender-verify-promises = record { no-ghost = λ κs a. refl; no-requires = λ κs a g. refl; ensured = λ κs a g x e. refl }
+
+  pub find-promises : Promises find.ended (find.clauses 𝓤 H A mem run) (λ κs a x e. ReadFile (now (a .0)) (x .answer) (x .head) (x .places))
+  find-promises = record { no-ghost = λ κs a. refl; no-requires = λ κs a g. refl; ensured = λ κs a g x e. refl }
+
+  -- ---- the reader that hands out a file's bodies
+
+  pub read-promises : Promises read.ended (read.clauses 𝓤 H A mem run) (λ κs a x e. x ≡ readerOver (a .0))
+  read-promises = record { no-ghost = λ κs a. refl; no-requires = λ κs a g. refl; ensured = λ κs a g x e. refl }
+
+  pub body-promises : Promises body.ended (body.clauses 𝓤 H A mem run) (λ κs a x e. HandsOut (a .0) (a .1 .0) x)
+  body-promises = record { no-ghost = λ κs a. refl; no-requires = λ κs a g. refl; ensured = λ κs a g x e. refl }
+
+  pub body-of-promises : Promises body-of.ended (body-of.clauses 𝓤 H A mem run) (λ κs a x e. HandsOut (readerOver (a .0)) (a .1 .0) x)
+  body-of-promises = record { no-ghost = λ κs a. refl; no-requires = λ κs a g. refl; ensured = λ κs a g x e. refl }
 
 -- ---- and the code of each meets it
 
@@ -160,3 +196,18 @@ receiver-answer-meets = receiver-answer-thm.met
 
 pub sender-verify-meets : {M : Type 1} → sender-verify-stated.statement M
 sender-verify-meets = sender-verify-thm.met
+
+pub softspoken-file-read-meets : {M : Type 1} → softspoken-file-read-stated.statement M
+softspoken-file-read-meets = softspoken-file-read-thm.met
+
+pub find-meets : {M : Type 1} → find-stated.statement M
+find-meets = find-thm.met
+
+pub read-meets : {M : Type 1} → read-stated.statement M
+read-meets = read-thm.met
+
+pub body-meets : {M : Type 1} → body-stated.statement M
+body-meets = body-thm.met
+
+pub body-of-meets : {M : Type 1} → body-of-stated.statement M
+body-of-meets = body-of-thm.met

@@ -1,5 +1,5 @@
--- Demand 1: every call of a step ends in done or in a refusal that paper 01 lists for that step, and a refusal alters nothing, except
--- that a failed check closes the session. Assumes nothing.
+-- Demand 1: every call of a step ends in done or in a refusal that paper 01, or a note of paper 02, lists for that step, and a refusal alters
+-- nothing, except that a failed check closes the session. Assumes nothing.
 use mathlib.Core.Path.{_≡_}
 use mathlib.Core.Logic.{_≢_}
 use mathlib.Core.List.{List, [], _∷_}
@@ -12,6 +12,9 @@ use Rattle.setup.specs.Setup.{ReceiverSetup, SenderSetup}
 use Rattle.rules.specs.declared.Record.{Record}
 use Rattle.rules.specs.Orders.{closed}
 use Rattle.session.specs.Steps.{OpenSession, ReceiverStart, SenderCorrect, ReceiverAnswer, SenderVerify}
+use Rattle.batchfile.specs.declared.FileHead.{FileHead}
+use Rattle.batchfile.specs.declared.Places.{Places}
+use Rattle.batchfile.specs.File.{ReadFile}
 
 -- what a step is lent and may alter: the record of a session, which the setups have not, and the byte ranges out. (A range in is lent to
 -- be read: its type lets no step write there.)
@@ -19,8 +22,8 @@ pub data Lent : Type 0 where
   ranges : List Range → Lent
   session : Record → List Range → Lent
 
--- a call of one of the seven steps: the numbers of the refusals that paper 01 lists for it, its answer, and what it was lent before it
--- and after it
+-- a call of one of paper 01's seven steps, or of paper 02's: the numbers of the refusals that are listed for it, in their order, its answer,
+-- and what it was lent before it and after it
 pub data Call : List ℕ → Answer → Lent → Lent → Type 0 where
   receiver-setup : {width : ℕ} {roots pads message message′ : Range} {answer : Answer}
       → ReceiverSetup width roots pads message answer message′
@@ -44,6 +47,9 @@ pub data Call : List ℕ → Answer → Lent → Lent → Type 0 where
   sender-verify : {r r′ : Record} {key : ℕ} {table delta message pads pads′ : Range} {answer : Answer}
       → SenderVerify r key table delta message pads answer r′ pads′
       → Call (1 ∷ 2 ∷ 3 ∷ 4 ∷ 5 ∷ 6 ∷ []) answer (session r (pads ∷ [])) (session r′ (pads′ ∷ []))
+  -- paper 02, note 1: 7; 8 for a head not 6 bytes long; 1, 3 and 4 on the head; last 8. It is lent nothing to write
+  read-file : {file : Range} {head : FileHead} {places : Places} {answer : Answer} → ReadFile file answer head places
+      → Call (7 ∷ 8 ∷ 1 ∷ 3 ∷ 4 ∷ 8 ∷ []) answer (ranges []) (ranges [])
 
 -- what a failed check leaves: the record closed, and all ranges as they were
 abbrev pub shut : Lent → Lent

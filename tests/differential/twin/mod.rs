@@ -3,6 +3,7 @@
 
 pub mod batch;
 pub mod chacha20;
+pub mod file;
 pub mod gf64;
 pub mod setup;
 pub mod sha256;

@@ -1,7 +1,8 @@
 //! The columns, the trees, and the length of every byte range that a step is lent: paper 01, 'Words and layouts' and 'Steps and their
-//! turning away'.
+//! turning away'; of a batch on file, paper 02, note 1.
 //!
-//! Each is a function of the width, and in a batch of the blocks, also where it is the same for every width. A size stands nowhere else.
+//! Each is a function of the width, and in a batch of the blocks, also where it is the same for every width, except what stands in a file
+//! before its width is known. A size stands nowhere else.
 
 /// A table has 128 columns, each with a base transfer of its own.
 pub fn columns(_width: usize) -> usize {
@@ -80,4 +81,21 @@ pub fn receiver_pads_length(width: usize, blocks: usize) -> usize {
 /// The keeper's pads: 4,096 × P, two for each transfer.
 pub fn sender_pads_length(width: usize, blocks: usize) -> usize {
     64 * transfers(width, blocks)
+}
+
+// A batch on file.
+
+/// The count: 4, then for each entry its kind, offset and length: 4 each.
+pub fn contents_length(count: usize) -> usize {
+    4 + 12 * count
+}
+
+/// The head: 6, of which the width has 1, the blocks 1 and the batch 4.
+pub fn head_length() -> usize {
+    1 + 1 + 4
+}
+
+/// The key: 8.
+pub fn key_length(_width: usize) -> usize {
+    8
 }

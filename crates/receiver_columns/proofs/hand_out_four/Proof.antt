@@ -8,7 +8,8 @@ use lib.ListN.{length, length-append}
 use Rattle.words.specs.Bytes.{concat, put}
 use Rattle.words.specs.Lanes.{laneBytes}
 use Rattle.words.proofs.LaneBytes.{laneBytes-length}
-use Rattle.receiver_columns.proofs.Starts.{put-none, handed-next}
+use Rattle.words.proofs.Parts.{put-none}
+use Rattle.receiver_columns.proofs.Starts.{handed-next}
 use Rattle.receiver_columns.proofs.hand_out_four.Statement.{statement}
 use Rattle.receiver_columns.proofs.hand_out_four.Tie as tie
 

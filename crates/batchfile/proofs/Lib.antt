@@ -1,0 +1,6 @@
+pub mod Contents
+pub mod Reading
+pub mod Bodies
+pub mod Laid
+pub mod Taken
+pub mod Witness

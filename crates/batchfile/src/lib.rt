@@ -1,0 +1,268 @@
+// A batch on file: whether it may be read, its head, and where its bodies begin. Nothing of it is copied.
+mod values;
+
+use answer::Answer;
+ghost use mathlib.Core.Path.{_≡_};
+ghost use mathlib.Core.Bool.{true, _&&_};
+ghost use Prim.Native.Nat.{_+_, _^_, _≤_, _<_};
+ghost use lib.Dec.{eqb};
+ghost use lib.ListN.{length};
+ghost use Rattle.words.specs.Bytes.{every};
+ghost use Rattle.sizes.specs.Sizes.{contentsLength, headLength};
+ghost use Rattle.answer.specs.Answer.{firstOf};
+ghost use Rattle.rules.specs.Orders.{headRight};
+ghost use Rattle.batchfile.specs.File.{countOf, fieldAt, placeAt, entryRight, contentsRight, entryOf, bodyOf, headOf, valuesOrder, readAnswer, placesOf, nowhere, noHead, longestFile, ReadFile};
+ghost use Rattle.batchfile.specs.HeadAt.{headAt};
+
+// What a head says: the width, the blocks and the batch number.
+pub struct FileHead {
+    pub width: u32,
+    pub blocks: u32,
+    pub batch: u64,
+}
+
+// Where the five bodies begin.
+pub struct Places {
+    pub setup: usize,
+    pub head: usize,
+    pub correction: usize,
+    pub key: usize,
+    pub check: usize,
+}
+
+// What reading finds.
+pub struct Found {
+    pub answer: Answer,
+    pub head: FileHead,
+    pub places: Places,
+}
+
+// The length of the contents, which is where an entry after so many others begins, too.
+fn contents_length(count: usize) -> usize
+    requires { ⌜ count ≤ 5 ⌝ }
+    ensures { λ r. ⌜ r ≡ contentsLength count ⌝ }
+{
+    4 + 12 * count
+}
+
+// The number of entries.
+fn count(file: &[u8]) -> usize
+    requires { ⌜ contentsLength 0 ≤ length (now file) ⌝ }
+    ensures { λ r. ⌜ r ≡ countOf (now (file .entry)) ⌝ }
+{
+    words::load32(file, 0) as usize
+}
+
+// A field of entry e: 0 its kind, 1 where its body begins, 2 its body's length.
+fn field(file: &[u8], e: usize, i: usize) -> usize
+    requires { ⌜ (contentsLength (e + 1) ≤ length (now file)) × (e < 5) × (i < 3) ⌝ }
+    ensures { λ r. ⌜ (r ≡ fieldAt (now (file .entry)) e i) × (r < 2 ^ 32) ⌝ }
+{
+    words::load32(file, contents_length(e) + 4 * i) as usize
+}
+
+// Whether entry e of n has its kind, and its body begins at a place.
+fn entry_right(file: &[u8], n: usize, e: usize, place: usize) -> bool
+    requires { ⌜ (n ≡ countOf (now file)) × (n ≤ 5) × (e < n) × (contentsLength n ≤ length (now file)) × (place ≡ placeAt (now file) e) ⌝ }
+    ensures { λ r. ⌜ r ≡ entryRight (now (file .entry)) e ⌝ }
+{
+    if field(file, e, 0) != e + 6 - n {
+        return false;
+    }
+    field(file, e, 1) == place
+}
+
+// Whether n entries are right, and their bodies reach to the file's end.
+fn bodies_stand(file: &[u8], n: usize) -> bool
+    requires { ⌜ (n ≡ countOf (now file)) × (n ≤ 5) × (contentsLength n ≤ length (now file)) ⌝ }
+    ensures { λ r. ⌜ r ≡ (every n (entryRight (now (file .entry))) && eqb (placeAt (now (file .entry)) n) (length (now (file .entry)))) ⌝ }
+{
+    let mut place = contents_length(n);
+    let mut e = 0;
+    while e < n {
+        if !entry_right(file, n, e, place) {
+            return false;
+        }
+        place += field(file, e, 2);
+        e += 1;
+    }
+    place == file.len()
+}
+
+// Of n entries, a field of that of a kind but the setup.
+fn field_of(file: &[u8], n: usize, kind: usize, i: usize) -> usize
+    requires { ⌜ (contentsRight (now file) ≡ true) × (n ≡ countOf (now file)) × (2 ≤ kind) × (kind ≤ 5) × (i < 3) ⌝ }
+    ensures { λ r. ⌜ r ≡ fieldAt (now (file .entry)) (entryOf n kind) i ⌝ }
+{
+    field(file, kind + n - 6, i)
+}
+
+// Where its body begins.
+fn place_of(file: &[u8], n: usize, kind: usize) -> usize
+    requires { ⌜ (contentsRight (now file) ≡ true) × (n ≡ countOf (now file)) × (2 ≤ kind) × (kind ≤ 5) ⌝ }
+    ensures { λ r. ⌜ r ≡ placeAt (now (file .entry)) (entryOf n kind) ⌝ }
+{
+    field_of(file, n, kind, 1)
+}
+
+// And its body's length.
+fn length_of(file: &[u8], n: usize, kind: usize) -> usize
+    requires { ⌜ (contentsRight (now file) ≡ true) × (n ≡ countOf (now file)) × (2 ≤ kind) × (kind ≤ 5) ⌝ }
+    ensures { λ r. ⌜ r ≡ length (bodyOf (now (file .entry)) kind) ⌝ }
+{
+    field_of(file, n, kind, 2)
+}
+
+// The length of the setup, which is absent where there are four entries.
+fn setup_length(file: &[u8], n: usize) -> usize
+    requires { ⌜ (contentsRight (now file) ≡ true) × (n ≡ countOf (now file)) ⌝ }
+    ensures { λ r. ⌜ r ≡ length (bodyOf (now (file .entry)) 1) ⌝ }
+{
+    if n == 5 {
+        return field(file, 0, 2);
+    }
+    0
+}
+
+// The head of 6 bytes at a place.
+fn head_at(file: &[u8], at: usize) -> FileHead
+    requires { ⌜ at + headLength ≤ length (now file) ⌝ }
+    ensures { λ r. ⌜ r ≡ headAt (now (file .entry)) at ⌝ }
+{
+    FileHead {
+        width: file[at] as u32,
+        blocks: file[at + 1] as u32,
+        batch: words::load32(file, at + 2) as u64,
+    }
+}
+
+// The head of a file of n entries.
+fn head_of(file: &[u8], n: usize) -> FileHead
+    requires { ⌜ (contentsRight (now file) ≡ true) × (n ≡ countOf (now file)) × (headRight (length (bodyOf (now file) 2)) ≡ true) ⌝ }
+    ensures { λ r. ⌜ r ≡ headOf (now (file .entry)) ⌝ }
+{
+    head_at(file, place_of(file, n, 2))
+}
+
+// The answer of the head's values and the bodies' lengths.
+fn values_answer(file: &[u8], n: usize, head: FileHead) -> Answer
+    requires { ⌜ (contentsRight (now file) ≡ true) × (n ≡ countOf (now file)) × (head ≡ headOf (now file)) ⌝ }
+    ensures { λ r. ⌜ r ≡ firstOf (valuesOrder (now (file .entry))) ⌝ }
+{
+    values::answer(
+        head.width,
+        head.batch,
+        head.blocks,
+        n == 5,
+        setup_length(file, n),
+        length_of(file, n, 3),
+        length_of(file, n, 4),
+        length_of(file, n, 5),
+    )
+}
+
+// The answer of a file of four or five entries.
+fn counted_answer(file: &[u8], n: usize) -> Answer
+    requires { ⌜ (n ≡ countOf (now file)) × (4 ≤ n) × (n ≤ 5) ⌝ }
+    ensures { λ r. ⌜ r ≡ readAnswer (now (file .entry)) ⌝ }
+{
+    if file.len() < contents_length(n) {
+        return Answer::Contents;
+    }
+    if !bodies_stand(file, n) {
+        return Answer::Contents;
+    }
+    if length_of(file, n, 2) != sizes::HEAD_LENGTH {
+        return Answer::Body;
+    }
+    values_answer(file, n, head_of(file, n))
+}
+
+// The answer that a file gets. Each count is named, so that the compiler makes straight code for each.
+fn read_answer(file: &[u8]) -> Answer
+    ensures { λ r. ⌜ r ≡ readAnswer (now (file .entry)) ⌝ }
+{
+    if file.len() < contents_length(0) {
+        return Answer::Contents;
+    }
+    let n = count(file);
+    if n == 5 {
+        return counted_answer(file, 5);
+    }
+    if n == 4 {
+        return counted_answer(file, 4);
+    }
+    Answer::Contents
+}
+
+// Where the bodies of a file of n entries begin.
+fn places_of(file: &[u8], n: usize) -> Places
+    requires { ⌜ (contentsRight (now file) ≡ true) × (n ≡ countOf (now file)) ⌝ }
+    ensures { λ r. ⌜ r ≡ placesOf (now (file .entry)) ⌝ }
+{
+    Places {
+        setup: contents_length(n),
+        head: place_of(file, n, 2),
+        correction: place_of(file, n, 3),
+        key: place_of(file, n, 4),
+        check: place_of(file, n, 5),
+    }
+}
+
+// All places at one.
+fn nowhere(end: usize) -> Places
+    ensures { λ r. ⌜ r ≡ nowhere end ⌝ }
+{
+    Places {
+        setup: end,
+        head: end,
+        correction: end,
+        key: end,
+        check: end,
+    }
+}
+
+// A head of zeros.
+fn no_head() -> FileHead
+    ensures { λ r. ⌜ r ≡ noHead ⌝ }
+{
+    FileHead {
+        width: 0,
+        blocks: 0,
+        batch: 0,
+    }
+}
+
+// Reads a file, whatever it holds.
+pub fn find(file: &[u8]) -> Found
+    ensures { λ r. ⌜ ReadFile (now (file .entry)) (r .answer) (r .head) (r .places) ⌝ }
+{
+    let answer = read_answer(file);
+    if answer::is_done(answer) {
+        let n = count(file);
+        let head = head_of(file, n);
+        let places = places_of(file, n);
+        return Found {
+            answer,
+            head,
+            places,
+        };
+    }
+    let head = no_head();
+    let places = nowhere(file.len());
+    Found {
+        answer,
+        head,
+        places,
+    }
+}
+
+// No file that is read is longer.
+pub const LONGEST_FILE: usize = 25558;
+
+// A constant has no contract of its own: this holds it to the definition.
+pub fn longest_file() -> usize
+    ensures { λ r. ⌜ r ≡ longestFile ⌝ }
+{
+    LONGEST_FILE
+}

@@ -1,0 +1,371 @@
+"""The files that the program files reads, and what it must print of them; and those that tests/host reads. Each stands beside the answer
+that paper 02, note 1 names."""
+
+import functools
+import hashlib
+import itertools
+import random
+
+import batch
+import file
+import sizes
+from file import BODY, CHECK, CONTENTS, CORRECTION, HEAD, KEY, KINDS, SETUP, Entry
+from records import LIMIT, Records, derived, numbers
+from setup import DONE, WIDTH, WIDTHS
+
+MOST = (1 << 32) - 1
+HALF = 1 << 31
+
+# What a record asks for.
+READ = 1
+
+# As much as the program derives; no file here is longer.
+DERIVED = 61472
+
+
+@functools.lru_cache(maxsize=4)
+def under(seed):
+    """What a file holds where nothing else is said."""
+    return derived(seed, 0, DERIVED)
+
+
+def pieces(data, seed):
+    """The places and bytes of those parts of a file that aren't what its seed gives, in whole steps of 32."""
+    base, differ = under(seed), []
+    for at in range(0, len(data), 32):
+        part = data[at:at + 32]
+        if part != base[at:at + len(part)]:
+            differ.append((at, part))
+    return differ
+
+
+def long(*given):
+    return b"".join(x.to_bytes(8, "little") for x in given)
+
+
+def told(found):
+    """The answer's number, the head's values, the places and the end; then of each kind from 0 to 6 the first 8 bytes of the body's digest
+    and its length. Kinds that there aren't have no bytes."""
+    line = bytes([found.answer]) + numbers(found.head.width, found.head.blocks) + long(found.head.batch, *found.places)
+    bodies = [b"", *found.bodies, b""]
+    return (line + b"".join(hashlib.sha256(body).digest()[:8] + long(len(body)) for body in bodies)).hex()
+
+
+class Files(Records):
+    """A line a file. A record has the file's length, a seed, and the parts of the file that are sent: place, length and bytes."""
+
+    def read(self, answer, seed, data):
+        found = file.read(data)
+        assert found.answer == answer
+        assert len(data) <= DERIVED
+        sent = [numbers(at, len(part)) + part for at, part in pieces(data, seed)]
+        self.add(READ, numbers(len(data), seed) + b"".join(sent), told(found))
+
+
+class Host:
+    """What tests/host reads. Of each file its length and its bytes; the answer's number, the head's values, the places and the end; then of
+    each kind from 0 to 6 the body's length and its bytes."""
+
+    def __init__(self):
+        self.out = b""
+        self.records = 0
+
+    def read(self, answer, seed, data):
+        found = file.read(data)
+        assert found.answer == answer
+        self.out += numbers(len(data)) + data + numbers(found.answer, found.head.width, found.head.blocks)
+        self.out += long(found.head.batch, *found.places)
+        self.out += b"".join(numbers(len(body)) + body for body in [b"", *found.bodies, b""])
+        self.records += 1
+
+
+class Site:
+    """A batch of one width and number of blocks on file, and the files that are nearly that."""
+
+    def __init__(self, v, width, blocks, kinds, number):
+        self.v, self.seed = v, v.records
+        self.width, self.blocks, self.number = width, blocks, number
+        self.kinds = list(kinds)
+        self.lengths = {kind: file.body_lengths(width, blocks)[kind] for kind in kinds}
+        self.entries = self.entries_with({})
+        self.end = self.entries[-1].offset + self.entries[-1].length
+        self.head = self.head_with()
+
+    def head_with(self, **other):
+        """The head, with other values where they are given."""
+        return file.head_body(**{"width": self.width, "blocks": self.blocks, "batch": self.number, **other})
+
+    def entries_with(self, lengths, kinds=None):
+        """Consistent entries, with other lengths by kind where they are given."""
+        kinds = self.kinds if kinds is None else kinds
+        return file.entries_of(kinds, [{**self.lengths, **lengths}.get(kind, 0) for kind in kinds])
+
+    def laid(self, entries=None, head=None, end=None, count=None, key=None):
+        """The bytes of a file: the head and a key where their entries say, then the contents, over what the seed gives."""
+        entries, head = self.entries if entries is None else entries, self.head if head is None else head
+        end = self.end if end is None else end
+        data = bytearray(under(self.seed)[:end])
+        parts = [(entry.offset, head) for entry in entries if entry.kind == HEAD]
+        parts += [(entry.offset, key) for entry in entries if entry.kind == KEY and key is not None]
+        parts.append((0, file.contents(len(entries) if count is None else count, entries)))
+        for at, part in parts:
+            part = part[:max(end - at, 0)]
+            data[at:at + len(part)] = part
+        return bytes(data)
+
+    def case(self, answer, **given):
+        self.v.read(answer, self.seed, self.laid(**given))
+
+    def consistent(self, answer, head=None, **lengths):
+        """A file whose contents are right, with other lengths of bodies by the names of their kinds, or another head."""
+        lengths = {NAMES[name]: length for name, length in lengths.items()}
+        if head is not None:
+            lengths[HEAD] = len(head)
+        entries = self.entries_with(lengths)
+        self.case(answer, entries=entries, head=head, end=entries[-1].offset + entries[-1].length)
+
+    def changed(self, e, **fields):
+        """The right entries, but for one, of which some fields are others."""
+        return [entry._replace(**fields) if at == e else entry for at, entry in enumerate(self.entries)]
+
+    def moved(self, e, by):
+        """The bodies from entry e on stand elsewhere, and the file's end with them."""
+        entries = [entry._replace(offset=entry.offset + by) if at >= e else entry for at, entry in enumerate(self.entries)]
+        return {"entries": entries, "end": self.end + by}
+
+
+NAMES = {"setup": SETUP, "head": HEAD, "correction": CORRECTION, "key": KEY, "check": CHECK}
+
+
+# Files that are read.
+
+def taken(v, rng):
+    """At every width and number of blocks, and of both layouts with the fewest and the most; there also the least and the highest batch
+    number, one whose lower bytes are 0, and the keys 0 and 1."""
+    for width in WIDTHS:
+        for blocks in range(1, 16):
+            number = rng.randrange(1, 1 << 32)
+            for kinds in (KINDS, KINDS[1:]) if blocks in (1, 15) else (KINDS[blocks % 2:],):
+                site = Site(v, width, blocks, kinds, number)
+                site.case(DONE)
+                if blocks not in (1, 15):
+                    continue
+                for number in (1, 1 << 24, MOST):
+                    site.case(DONE, head=site.head_with(batch=number))
+                for key in (0, 1):
+                    site.case(DONE, key=long(key))
+
+
+# 7: count, kinds, offsets or file end.
+
+def cut(site, ends):
+    whole = site.laid()
+    for end in ends:
+        site.v.read(CONTENTS, site.seed, whole[:end])
+
+
+def counts(site):
+    """Other counts over a right file; then as many entries as the count says, and all else right."""
+    n = len(site.entries)
+    for count in (0, 3, 9 - n, 6, n + (1 << 8), n + HALF, MOST):
+        site.case(CONTENTS, count=count)
+    for kinds in ([], [CORRECTION, KEY, CHECK], [HEAD, CORRECTION, CHECK], [*KINDS, 6], [0, *KINDS]):
+        entries = site.entries_with({}, kinds)
+        end = sum(entry.length for entry in entries) + sizes.contents_length(len(entries))
+        site.case(CONTENTS, entries=entries, end=end)
+
+
+def kinds(site):
+    """Bodies and offsets stay; the kinds of the entries are others."""
+    n, right = len(site.kinds), site.kinds
+
+    def named(*others):
+        entries = [entry._replace(kind=kind) for entry, kind in zip(site.entries, others)]
+        site.case(CONTENTS, entries=entries)
+
+    for e in range(n - 1):
+        named(*right[:e], right[e + 1], right[e], *right[e + 2:])
+        named(*right[:e], right[e + 1], *right[e + 1:])
+        named(*right[:e + 1], right[e], *right[e + 2:])
+    for e in range(n):
+        for kind in (0, 6, right[e] + (1 << 8)):
+            named(*right[:e], kind, *right[e + 1:])
+    named(*[SETUP if kind == HEAD else kind for kind in right])
+    named(*[kind - 1 for kind in right])
+    named(*[kind + 1 for kind in right])
+    named(*right[::-1])
+
+
+def offsets(site):
+    """One offset is another; then bodies that stand where the offsets say, but with a gap or an overlap of 1 before one of them."""
+    for e, entry in enumerate(site.entries):
+        for offset in (entry.offset - 1, entry.offset + 1, 0, MOST):
+            site.case(CONTENTS, entries=site.changed(e, offset=offset))
+        site.case(CONTENTS, **site.moved(e, 1))
+        site.case(CONTENTS, **site.moved(e, -1))
+
+
+def passed(site, e):
+    """A body ends 2^31 further on, and the next one, from there, 2^32 further on: in 32 bits where it should."""
+    here, following = site.entries[e:e + 2]
+    far = [here._replace(length=here.length + HALF), Entry(following.kind, following.offset + HALF, following.length + HALF)]
+    return site.entries[:e] + far + site.entries[e + 2:]
+
+
+def lengths(site):
+    """One length is another, the offsets stay; lengths near 2^32, also those by which the offsets or the end would be right in 32 bits."""
+    n, entries = len(site.entries), site.entries
+    for e, entry in enumerate(entries):
+        for length in (entry.length - 1, entry.length + 1, 0, MOST):
+            site.case(CONTENTS, entries=site.changed(e, length=length))
+    for e in range(n - 1):
+        site.case(CONTENTS, entries=passed(site, e))
+        # a body ends 2^32 - 1 further on, in 32 bits a byte before its own start; the next one is as much longer
+        here, following = entries[e], entries[e + 1]
+        back = [here._replace(length=MOST), Entry(following.kind, here.offset - 1, here.length + following.length + 1)]
+        site.case(CONTENTS, entries=entries[:e] + back + entries[e + 2:])
+    # four lengths, each 2^30 longer, and each offset where the body before it ends
+    quarters = [entry.length + (1 << 30) * (e >= n - 4) for e, entry in enumerate(entries)]
+    site.case(CONTENTS, entries=file.entries_of(site.kinds, quarters))
+    site.case(CONTENTS, entries=[entry._replace(length=MOST) for entry in entries])
+
+
+def ends(site):
+    """The file is longer or shorter than its bodies."""
+    last = site.lengths[CHECK]
+    for by in (1, 2, 100, -1, -2, -last, -last - 1):
+        site.case(CONTENTS, end=site.end + by)
+
+
+def permuted(site):
+    """Two bodies change places: with offsets that say so, the kinds in order; then with their entries."""
+    n = len(site.kinds)
+    for e, other in itertools.combinations(range(n), 2):
+        order = list(site.kinds)
+        order[e], order[other] = order[other], order[e]
+        entries = site.entries_with({}, order)
+        site.case(CONTENTS, entries=sorted(entries))
+        site.case(CONTENTS, entries=entries)
+
+
+def contents_first(site):
+    """Contents that aren't right, and a head or a body that would be refused too."""
+    no_head = site.head_with(width=3, batch=0, blocks=16)
+    site.case(CONTENTS, count=6, head=no_head)
+    site.case(CONTENTS, end=site.end + 1, head=no_head)
+    site.case(CONTENTS, entries=site.changed(0, kind=0), head=no_head)
+    site.case(CONTENTS, entries=site.changed(0, offset=0), head=no_head)
+    for lengths in ({HEAD: 5}, {HEAD: 0}, {KEY: 7}, {CORRECTION: 0, CHECK: 0}):
+        entries = site.entries_with(lengths)
+        site.case(CONTENTS, entries=entries, end=entries[-1].offset + entries[-1].length + 1)
+
+
+# 8 for the head's length, which comes before what it holds.
+
+def head_lengths(site):
+    for head in (site.head, site.head_with(width=3), site.head_with(batch=0, blocks=16)):
+        for length in (0, 5, 7, 10):
+            site.consistent(BODY, (head + bytes(10))[:length])
+    for length in (1, 6 + 256):
+        site.consistent(BODY, (site.head + bytes(length))[:length])
+    site.consistent(BODY, b"", setup=0, correction=0, key=0, check=0)
+    site.consistent(BODY, site.head[:5], key=9)
+    site.consistent(BODY, site.head_with(width=3) + b"\x00", setup=8191)
+
+
+# 1, 3 and 4 for what the head holds, in this order.
+
+def heads(site):
+    right = site.lengths[CORRECTION]
+    for width in (0, 3, 5, 16, 255):
+        site.consistent(WIDTH, site.head_with(width=width))
+    for width in (3, 5, 16):
+        site.consistent(WIDTH, site.head_with(width=width), correction=sizes.correction_length(width, site.blocks))
+    site.consistent(WIDTH, site.head_with(width=3, batch=0))
+    site.consistent(WIDTH, site.head_with(width=3, blocks=16))
+    site.consistent(WIDTH, site.head_with(width=0, blocks=0, batch=0))
+    site.consistent(WIDTH, site.head_with(width=3), key=9)
+    site.consistent(WIDTH, site.head_with(width=16), setup=0, correction=0, check=0)
+    site.consistent(batch.BATCH, site.head_with(batch=0))
+    for blocks in (0, 16, 255):
+        site.consistent(batch.BATCH, site.head_with(batch=0, blocks=blocks))
+        site.consistent(batch.BLOCKS, site.head_with(blocks=blocks))
+    site.consistent(batch.BATCH, site.head_with(batch=0), correction=right + 1)
+    for blocks in (0, 16):
+        site.consistent(batch.BLOCKS, site.head_with(blocks=blocks), correction=sizes.correction_length(site.width, blocks))
+    site.consistent(batch.BLOCKS, site.head_with(blocks=17), setup=0, key=7)
+
+
+# 8 for a body's length.
+
+def body_lengths(site):
+    width, blocks, right = site.width, site.blocks, site.lengths[CORRECTION]
+    column = sizes.column_length(width, blocks)
+    if SETUP in site.kinds:
+        for length in (0, 8191, 8193):
+            site.consistent(BODY, setup=length)
+    for length in (0, right - 1, right + 1, right + column):
+        site.consistent(BODY, correction=length)
+    assert right + column == sizes.trees_of(width) * column
+    for other in WIDTHS:
+        if other != width:
+            site.consistent(BODY, site.head_with(width=other))
+    site.consistent(BODY, site.head_with(blocks=16 - blocks))
+    for length in (0, 7, 9):
+        site.consistent(BODY, key=length)
+    for length in (0, 1031, 1033):
+        site.consistent(BODY, check=length)
+    # the file is as long as it should be
+    site.consistent(BODY, key=7, check=1033)
+    site.consistent(BODY, correction=right + 1, key=7)
+    site.consistent(BODY, correction=right - 1, check=1033)
+
+
+def cases():
+    rng = random.Random(7)
+    v = Files()
+    taken(v, rng)
+    # the contents' rules go by no width: each width has one number of blocks there, and one layout
+    for width, blocks, layout in ((1, 1, KINDS), (2, 15, KINDS[1:]), (4, 1, KINDS[1:]), (8, 15, KINDS)):
+        site = Site(v, width, blocks, layout, rng.randrange(1, 1 << 32))
+        cut(site, range(65) if width < 4 else (0, 1, 2, 3, 4, 51, 52, 63, 64))
+        for group in (counts, kinds, offsets, lengths, ends, permuted, contents_first):
+            group(site)
+    for at, width in enumerate(WIDTHS):
+        for blocks, layout in ((1, KINDS[at % 2:]), (15, KINDS[1 - at % 2:])):
+            site = Site(v, width, blocks, layout, rng.randrange(1, 1 << 32))
+            for group in (head_lengths, heads, body_lengths):
+                group(site)
+    assert len(v.asked) <= LIMIT
+    return v
+
+
+def host_cases():
+    """Both layouts at every width, and each refusal; the shortest files but one."""
+    rng = random.Random(8)
+    v = Host()
+    for width, kinds in itertools.product(WIDTHS, (KINDS, KINDS[1:])):
+        Site(v, width, 1, kinds, rng.randrange(1, 1 << 32)).case(DONE)
+    Site(v, 1, 15, KINDS, MOST).case(DONE)
+    site = Site(v, 8, 1, KINDS, 1)
+    site.case(CONTENTS, count=4)
+    site.consistent(BODY, setup=0)
+    site.consistent(BODY, setup=8191)
+    site = Site(v, 8, 1, KINDS[1:], 1)
+    cut(site, (0, 1, 3, 4, 51, 52))
+    ends(site)
+    for fields in ({"kind": 1}, {"offset": 0}, {"length": 0}):
+        site.case(CONTENTS, entries=site.changed(0, **fields))
+    site.case(CONTENTS, entries=site.changed(2, offset=site.entries[2].offset + 1))
+    for given in ({"count": 5}, {"count": 6}, site.moved(3, 1), {"entries": passed(site, 2)}):
+        site.case(CONTENTS, **given)
+    site.consistent(BODY, site.head_with(width=3)[:5])
+    site.consistent(BODY, site.head + bytes(4))
+    site.consistent(WIDTH, site.head_with(width=3, batch=0))
+    site.consistent(batch.BATCH, site.head_with(batch=0, blocks=16))
+    for blocks in (0, 16):
+        site.consistent(batch.BLOCKS, site.head_with(blocks=blocks), key=9)
+    for given in ({"correction": site.lengths[CORRECTION] + 1}, {"key": 7}, {"check": 1033}, {"key": 9, "check": 1031}):
+        site.consistent(BODY, **given)
+    site.case(DONE, key=long(0))
+    return v.out

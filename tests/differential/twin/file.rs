@@ -1,0 +1,158 @@
+//! A batch on file, for any bytes: paper 02, note 1.
+//!
+//! A file has its contents, then its bodies: of the kinds in order, of which the setup may be absent. The names are those of setup.rs.
+
+use super::batch::{BATCH, BLOCKS};
+use super::setup::{DONE, WIDTH, WIDTHS};
+use super::sizes;
+use crate::library::File;
+
+pub const CONTENTS: u32 = 7;
+pub const BODY: u32 = 8;
+
+pub const SETUP: u32 = 1;
+pub const HEAD: u32 = 2;
+pub const CORRECTION: u32 = 3;
+pub const KEY: u32 = 4;
+pub const CHECK: u32 = 5;
+pub const KINDS: [u32; 5] = [SETUP, HEAD, CORRECTION, KEY, CHECK];
+
+#[derive(Clone, Copy)]
+pub struct Entry {
+    pub kind: u32,
+    pub offset: u32,
+    pub length: u32,
+}
+
+// Writing, also what isn't to be read.
+
+pub fn head_body(width: u8, blocks: u8, batch: u32) -> Vec<u8> {
+    [&[width, blocks][..], &batch.to_le_bytes()].concat()
+}
+
+/// A file of these bodies, each with its kind.
+pub fn write(bodies: &[(u32, Vec<u8>)]) -> Vec<u8> {
+    let mut out = (bodies.len() as u32).to_le_bytes().to_vec();
+    let mut offset = sizes::contents_length(bodies.len());
+    for (kind, body) in bodies {
+        out.extend([*kind, offset as u32, body.len() as u32].map(u32::to_le_bytes).concat());
+        offset += body.len();
+    }
+    bodies.iter().for_each(|(_, body)| out.extend(body));
+    out
+}
+
+// Reading.
+
+fn number(data: &[u8], at: usize) -> u32 {
+    u32::from_le_bytes(data[at..at + 4].try_into().unwrap())
+}
+
+/// The entries, or nothing if their count is neither 4 nor 5, or the file ends before they do.
+fn entries_in(file: &[u8]) -> Option<Vec<Entry>> {
+    if file.len() < 4 {
+        return None;
+    }
+    let count = number(file, 0) as usize;
+    if ![4, 5].contains(&count) || file.len() < sizes::contents_length(count) {
+        return None;
+    }
+    let entry = |at| Entry {
+        kind: number(file, at),
+        offset: number(file, at + 4),
+        length: number(file, at + 8),
+    };
+    Some((0..count).map(|e| entry(sizes::contents_length(e))).collect())
+}
+
+/// Whether the kinds are in order, only the setup absent, and the bodies follow without gaps to the file's end. No sum of lengths wraps.
+fn contents_right(entries: &[Entry], length: usize) -> bool {
+    let kinds: Vec<u32> = entries.iter().map(|entry| entry.kind).collect();
+    if kinds != KINDS && kinds != KINDS[1..] {
+        return false;
+    }
+    let mut end = sizes::contents_length(entries.len()) as u64;
+    for entry in entries {
+        if u64::from(entry.offset) != end {
+            return false;
+        }
+        end += u64::from(entry.length);
+    }
+    end == length as u64
+}
+
+/// The length that a body has, by its kind.
+pub fn body_length(width: usize, blocks: usize, kind: u32) -> usize {
+    match kind {
+        SETUP => sizes::setup_message_length(width),
+        HEAD => sizes::head_length(),
+        CORRECTION => sizes::correction_length(width, blocks),
+        KEY => sizes::key_length(width),
+        CHECK => sizes::check_message_length(width),
+        _ => panic!("no such kind"),
+    }
+}
+
+/// The answer that the head and the other bodies get, and the head's values.
+fn answer_to(entries: &[Entry], head: &[u8]) -> (u32, u32, u32, u32) {
+    if head.len() != sizes::head_length() {
+        return (BODY, 0, 0, 0);
+    }
+    let (width, blocks, batch) = (u32::from(head[0]), u32::from(head[1]), number(head, 2));
+    let right = |entry: &Entry| entry.length as usize == body_length(width as usize, blocks as usize, entry.kind);
+    let answer = if !WIDTHS.contains(&width) {
+        WIDTH
+    } else if batch == 0 {
+        BATCH
+    } else if !(1..=15).contains(&blocks) {
+        BLOCKS
+    } else if !entries.iter().all(right) {
+        BODY
+    } else {
+        DONE
+    };
+    (answer, width, blocks, batch)
+}
+
+/// An absent setup begins where the head does. Of a file that is refused nothing is handed out: the head's values are 0, and every place
+/// is the file's end.
+pub fn read(file: &[u8]) -> File {
+    let entries = match entries_in(file).filter(|entries| contents_right(entries, file.len())) {
+        Some(entries) => entries,
+        None => return refused(CONTENTS, file),
+    };
+    let place = |kind| entries.iter().find(|entry| entry.kind == kind).map(|entry| u64::from(entry.offset));
+    let (head, correction) = (place(HEAD).unwrap(), place(CORRECTION).unwrap());
+    let (answer, width, blocks, batch) = answer_to(&entries, &file[head as usize..correction as usize]);
+    if answer != DONE {
+        return refused(answer, file);
+    }
+    File {
+        answer,
+        width,
+        blocks,
+        batch: u64::from(batch),
+        setup: place(SETUP).unwrap_or(head),
+        head,
+        correction,
+        key: place(KEY).unwrap(),
+        check: place(CHECK).unwrap(),
+        end: file.len() as u64,
+    }
+}
+
+fn refused(answer: u32, file: &[u8]) -> File {
+    let end = file.len() as u64;
+    File {
+        answer,
+        width: 0,
+        blocks: 0,
+        batch: 0,
+        setup: end,
+        head: end,
+        correction: end,
+        key: end,
+        check: end,
+        end,
+    }
+}
