@@ -25,10 +25,9 @@ def laid(width, blocks, batch, setup=True, **given):
 def cases():
     """Inputs, with the first line that is printed of each."""
     for width in (1, 2, 4, 8):
-        for blocks in (1, 9, 10, 15):
-            for batch in (1, 10, 2**32 - 1):
-                for setup in (True, False):
-                    yield laid(width, blocks, batch, setup), "width %d blocks %d batch %d" % (width, blocks, batch)
+        for blocks, batch in (1, 10), (9, 2**32 - 1), (10, 99):
+            for setup in (True, False):
+                yield laid(width, blocks, batch, setup), "width %d blocks %d batch %d" % (width, blocks, batch)
     longest = laid(1, 15, 7)
     yield longest, "width 1 blocks 15 batch 7"
     yield longest + b"\0", "too long"
