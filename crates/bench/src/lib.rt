@@ -5,6 +5,7 @@ ghost use Rattle.sha256_four.specs.FourDigests.{digests};
 ghost use Rattle.gf64.specs.Field.{foldBytes};
 ghost use Rattle.gf64.specs.Table.{keyTable};
 ghost use Rattle.bench.specs.Folds.{foldsWhere};
+ghost use Rattle.bench.specs.Rows.{rowsWhere};
 ghost use Prim.Native.Nat.{ℕ};
 ghost use Rattle.chacha20.specs.ChaCha.{blockOf};
 ghost use Rattle.chacha20_four.specs.FourStates.{blocksOf};
@@ -74,4 +75,25 @@ pub extern "C" fn bench_fold_four(table: &[u32; 512], s: &[u8], len: usize, out:
         return;
     }
     *out = gf64::fold_four(table, len, s);
+}
+
+// The 64 rows of a block of a table of columns of len bytes, or rows as they were where a length does not fit.
+#[no_mangle]
+pub extern "C" fn bench_block_rows(len: usize, table: &[u8], block: u32, rows: &mut [u8])
+    ensures { λ _. ⌜ now (rows .exit) ≡ rowsWhere len block (now (table .entry)) (now (rows .entry)) ⌝ }
+{
+    let at = 8 * (block as usize);
+    if 65536 < len {
+        return;
+    }
+    if table.len() != 128 * len {
+        return;
+    }
+    if len < at + 8 {
+        return;
+    }
+    if rows.len() != 1024 {
+        return;
+    }
+    rows::block_rows(len, table, at, rows);
 }

@@ -1,14 +1,13 @@
 -- Laws of pads: the input of one, written part by part, and four of them hashed at once. Assumes nothing.
-use mathlib.Core.Path.{_≡_, refl, sym, ap, ap₂, _∙_}
+use mathlib.Core.Path.{_≡_, refl, sym, ap, _∙_}
 use mathlib.Core.List.{List, [], _++_, append-nil}
-use Prim.Native.Nat.{ℕ, _+_, _-_, _*_, _<_}
-use native.Mathlib.Nat.{mul-comm, add-assoc}
+use Prim.Native.Nat.{ℕ, _+_, _*_, _<_}
+use native.Mathlib.Nat.{mul-comm}
 use native.Mathlib.Omega.{arith}
 use lib.ListN.{length, drop, length-drop}
-use lib.Seq.{drop-length, take-all}
-use borrow.Rule.Slice.PartMut.{putMid}
+use lib.Seq.{drop-length}
 use Rattle.words.specs.Bytes.{bytes, part, put, concat}
-use Rattle.words.proofs.Concat.{part-length, place-part, concat-same, concat-length, concat-part, concat-grow}
+use Rattle.words.proofs.Concat.{part-length, concat-same, concat-part}
 use Rattle.sha256.specs.Sha.{digestOf}
 use Rattle.sha256_four.specs.FourDigests.{digests}
 use Rattle.sha256.proofs.Blocks.{put-next}
@@ -58,23 +57,3 @@ unfolding padOf
 four-hashed batch first values e =
     digests-are (λ i. padInput batch (first + i) (part (i * 16) 16 values))
     (λ i h. input-length batch (first + i) (part (i * 16) 16 values) (part-length (i * 16) 16 values (omega (arith, e, h))))
-
--- ---- eight by two times four
-
--- pads of four values from value i on
-pub four-pads-from : (batch first start i : ℕ) (values : List ℕ) → start ≡ first + i
-    → concat 4 (λ j. padOf batch (start + j) (part (j * 16) 16 (part (i * 16) ((i + 4) * 16 - i * 16) values)))
-    ≡ concat 4 (λ j. padOf batch (first + (i + j)) (part ((i + j) * 16) 16 values))
-four-pads-from batch first start i values e =
-    concat-same 4 _ _
-    (λ j h. ap₂ (padOf batch) (ap (λ (n : ℕ). n + j) e ∙ add-assoc first i j) (place-part i 4 j 16 values h))
-
--- a range of two halves, which were lent one after the other and come back with four pads each
-pub two-halves : (f : ℕ → List ℕ) (xs ys zs : List ℕ) → ys ≡ concat 4 (λ j. f (0 + j)) → zs ≡ concat 4 (λ j. f (4 + j))
-    → ((i : ℕ) → length (f i) ≡ 32) → length xs ≡ 256 → putMid 128 128 (putMid 0 128 xs ys) zs ≡ concat 8 f
-unfolding concat
-two-halves f xs ys zs first second each e =
-    let long : (i : ℕ) → length (concat 4 (λ j. f (i + j))) ≡ 128 = λ i. concat-length (λ j. f (i + j)) 32 4 (λ j h. each (i + j)) in
-    let half = concat-grow f 0 4 0 128 xs ys first (long 0) (omega arith) (omega (arith, e)) refl in
-    let whole = concat-grow f 4 4 128 256 (putMid 0 128 xs ys) zs second (long 4) (omega arith) (omega (arith, half .0, e)) (half .1) in
-    sym (take-all 256 (putMid 128 128 (putMid 0 128 xs ys) zs) (omega (arith, whole .0, half .0, e))) ∙ whole .1

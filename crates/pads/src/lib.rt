@@ -11,6 +11,9 @@ ghost use Rattle.pads.specs.Pads.{padInput, padOf, receiverPads, senderP
 // The head of each hashed block.
 const LETTERS: [u8; 4] = *b"PADS";
 
+// The groups of eight rows in a block.
+const GROUPS: usize = 8;
+
 // The 32 bytes that a pad is the hash of.
 fn write_input(out: &mut [u8], batch: u64, row: u32, value: &[u8])
     requires { ⌜ (length (now out) ≡ 32) × (length (now value) ≡ 16) ⌝ }
@@ -64,21 +67,43 @@ fn eight_pads(batch: u64, first: u32, values: &[u8], pads: &mut [u8])
     four_pads(batch, first + 4, &values[64..128], &mut pads[128..256]);
 }
 
+// The pads of the 64 rows of a block, eight at a time.
+fn block_pads(batch: u64, first: u32, values: &[u8], pads: &mut [u8])
+    requires { ⌜ (first + 64 ≤ 4294967296) × (length (now values) ≡ 1024) × (length (now pads) ≡ 2048) ⌝ }
+    ensures { λ _. ⌜ now (pads .exit) ≡ concat 64 (λ i. padOf batch (first + i) (part (i * 16) 16 (now (values .entry)))) ⌝ }
+{
+    let mut group = 0;
+    while group < GROUPS {
+        let next = group + 1;
+        let from = group * 128;
+        let to = next * 128;
+        let start = group * 256;
+        let end = next * 256;
+        eight_pads(
+            batch,
+            first + (8 * group) as u32,
+            &values[from..to],
+            &mut pads[start..end],
+        );
+        group = next;
+    }
+}
+
 // The receiver's pads: one for each row of its table, but those of the spent block.
 pub fn receiver_pads(blocks: usize, batch: u64, table: &[u8], pads: &mut [u8])
     requires { ⌜ (blocks ≤ 15) × (length (now table) ≡ tableLength blocks) × (length (now pads) ≡ receiverPadsLength blocks) ⌝ }
     ensures { λ _. ⌜ now (pads .exit) ≡ receiverPads columns blocks batch (now (table .entry)) ⌝ }
 {
     let len = 8 * (blocks + 1);
-    let groups = 8 * blocks;
-    let mut at = 0;
-    while at < groups {
-        let next = at + 1;
-        let values = rows::eight_rows(len, table, at);
-        let start = at * 256;
-        let end = next * 256;
-        eight_pads(batch, (8 * at) as u32, &values, &mut pads[start..end]);
-        at = next;
+    let mut block = 0;
+    while block < blocks {
+        let next = block + 1;
+        let mut values = [0u8; 1024];
+        rows::block_rows(len, table, 8 * block, &mut values);
+        let start = block * 2048;
+        let end = next * 2048;
+        block_pads(batch, (64 * block) as u32, &values, &mut pads[start..end]);
+        block = next;
     }
 }
 
@@ -100,17 +125,41 @@ fn pair_pads(pads0: &[u8], pads1: &[u8], pairs: &mut [u8])
 }
 
 // Both pads of eight rows: pad 0 hashes the row value, pad 1 the row value with delta added.
-fn eight_pairs(batch: u64, first: u32, values: [u8; 128], delta: &[u8], pairs: &mut [u8])
-    requires { ⌜ (first + 8 ≤ 4294967296) × (length (now delta) ≡ deltaLength) × (length (now pairs) ≡ 512) ⌝ }
-    ensures { λ _. ⌜ now (pairs .exit) ≡ concat 8 (λ i. padOf batch (first + i) (part (i * 16) 16 values) ++ padOf batch (first + i) (xorList (part (i * 16) 16 values) (now (delta .entry)))) ⌝ }
+fn eight_pairs(batch: u64, first: u32, values: &[u8], delta: &[u8], pairs: &mut [u8])
+    requires { ⌜ (first + 8 ≤ 4294967296) × (length (now values) ≡ 128) × (length (now delta) ≡ deltaLength) × (length (now pairs) ≡ 512) ⌝ }
+    ensures { λ _. ⌜ now (pairs .exit) ≡ concat 8 (λ i. padOf batch (first + i) (part (i * 16) 16 (now (values .entry))) ++ padOf batch (first + i) (xorList (part (i * 16) 16 (now (values .entry))) (now (delta .entry)))) ⌝ }
 {
-    let mut shifted = values;
+    let mut shifted = [0u8; 128];
+    words::copy_part(&mut shifted, 0, values);
     words::xor_parts(&mut shifted, 8, delta);
     let mut pads0 = [0u8; 256];
-    eight_pads(batch, first, &values, &mut pads0);
+    eight_pads(batch, first, values, &mut pads0);
     let mut pads1 = [0u8; 256];
     eight_pads(batch, first, &shifted, &mut pads1);
     pair_pads(&pads0, &pads1, pairs);
+}
+
+// Both pads of the 64 rows of a block, eight at a time.
+fn block_pairs(batch: u64, first: u32, values: &[u8], delta: &[u8], pairs: &mut [u8])
+    requires { ⌜ (first + 64 ≤ 4294967296) × (length (now values) ≡ 1024) × (length (now delta) ≡ deltaLength) × (length (now pairs) ≡ 4096) ⌝ }
+    ensures { λ _. ⌜ now (pairs .exit) ≡ concat 64 (λ i. padOf batch (first + i) (part (i * 16) 16 (now (values .entry))) ++ padOf batch (first + i) (xorList (part (i * 16) 16 (now (values .entry))) (now (delta .entry)))) ⌝ }
+{
+    let mut group = 0;
+    while group < GROUPS {
+        let next = group + 1;
+        let from = group * 128;
+        let to = next * 128;
+        let start = group * 512;
+        let end = next * 512;
+        eight_pairs(
+            batch,
+            first + (8 * group) as u32,
+            &values[from..to],
+            delta,
+            &mut pairs[start..end],
+        );
+        group = next;
+    }
 }
 
 // The sender's pads: two for each row of its table, but those of the spent block.
@@ -119,13 +168,20 @@ pub fn sender_pads(blocks: usize, batch: u64, table: &[u8], delta: &[u8], pads: 
     ensures { λ _. ⌜ now (pads .exit) ≡ senderPads columns blocks batch (now (table .entry)) (now (delta .entry)) ⌝ }
 {
     let len = 8 * (blocks + 1);
-    let mut at = 0;
-    while at < 8 * blocks {
-        let next = at + 1;
-        let values = rows::eight_rows(len, table, at);
-        let start = at * 512;
-        let end = next * 512;
-        eight_pairs(batch, (8 * at) as u32, values, delta, &mut pads[start..end]);
-        at = next;
+    let mut block = 0;
+    while block < blocks {
+        let next = block + 1;
+        let mut values = [0u8; 1024];
+        rows::block_rows(len, table, 8 * block, &mut values);
+        let start = block * 4096;
+        let end = next * 4096;
+        block_pairs(
+            batch,
+            (64 * block) as u32,
+            &values,
+            delta,
+            &mut pads[start..end],
+        );
+        block = next;
     }
 }

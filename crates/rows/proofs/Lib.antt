@@ -1,3 +1,6 @@
 -- The laws that other crates cite.
 pub mod RowLaws
-pub mod Gathered
+pub mod Places
+pub mod Turns
+pub mod Stores
+pub mod Blocks

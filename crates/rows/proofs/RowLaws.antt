@@ -13,6 +13,7 @@ use Rattle.words.proofs.Sums.{ofBits-lt, ofBits-bit, ofBits-is, bit-scale}
 use Rattle.words.proofs.Lists.{tabulate-length, tabulate-at, tabulate-lt, xorEach-is, scale-at, scale-bytes}
 use Rattle.tree.specs.Layout.{columnOf}
 use Rattle.rows.specs.Row.{rowOf}
+use Rattle.rows.proofs.Places.{stands, bit-there}
 
 pub row-length : (m len : ℕ) (table : List ℕ) (j : ℕ) → length (rowOf m len table j) ≡ m / 8
 unfolding rowOf
@@ -52,11 +53,9 @@ row-sum m len j d v w delta hd small same =
     bits : (q b : ℕ) → q < m / 8 → b < 8
         → bitAt (columnOf len w (8 * q + b)) j ≡ bitOf (getD (rowOf m len v j) q 0 ⊕ getD (scale d delta) q 0) b
     bits q b hq hb =
-        let at : (8 * q + b) / 8 ≡ q = omega arith in
-        let weight : (8 * q + b) % 8 ≡ b = omega arith in
         same (8 * q + b) (omega arith)
         ∙ ap₂ _⊕_ (sym (byte-bit m len v j q b hq hb))
-        (ap₂ (λ (q b : ℕ). bitOf (getD delta q 0) b * d) at weight
+        (ap (λ (x : ℕ). x * d) (bit-there delta (8 * q + b) q b hb (stands q b))
         ∙ sym (bit-scale d (getD delta q 0) b hd)
         ∙ ap (λ (x : ℕ). bitOf x b) (sym (scale-at d delta q)))
         ∙ sym (bit-xor (getD (rowOf m len v j) q 0) (getD (scale d delta) q 0) b)

@@ -1,126 +1,167 @@
-// The rows of a table of 128 columns, eight at a time: bit r of byte `at` of each column makes row 8 * at + r.
+// The rows of a table of 128 columns, a block of 64 at a time. The bit of row j in column c has two places: in the column that of j, in the
+// row value that of c (paper 01: byte j div 8, weight 2^(j mod 8)). Both are carried along, weight by weight and then to the next byte, so no
+// number of a row or of a column is divided by 8 or shifted (paper 02, note 2). A word holds eight bytes of a column, the bits of 64 rows.
+// Eight such words change bits with each other, by shifts and masks, until rows stand where columns stood: first weights, then bytes.
 ghost use mathlib.Core.Path.{_≡_};
-ghost use Prim.Native.Nat.{ℕ, _+_, _*_, _≤_, _<_};
-ghost use lib.ListN.{length, getD};
+ghost use mathlib.Core.List.{[], _∷_};
+ghost use Prim.Native.Nat.{_+_, _*_, _≤_, _<_};
+ghost use lib.ListN.{length, set};
 ghost use Rattle.words.specs.Bytes.{concat};
 ghost use Rattle.sizes.specs.Sizes.{columns};
 ghost use Rattle.rows.specs.Row.{rowOf};
-ghost use Rattle.rows.specs.Gather.{stepsOf, packed, packedAll, putOf};
+ghost use Rattle.rows.specs.Gather.{Evens, Swapped, Staged, WeightsTurned, BytesTurned, columnWords, sideBySide, stores, storeBytes, Gathered, RowsLaid};
 
-// Lays a byte into each of eight rows.
-fn put(y: &mut [u8; 128], i: usize, v: [u8; 8])
+// Two words that changed bits.
+struct Pair {
+    first: u64,
+    second: u64,
+}
+
+// The bits of b at a mask change places with those of a that are s higher: where two bits differ, both turn over.
+fn swap(a: u64, b: u64, s: u32, mask: u64) -> Pair
+    requires { ⌜ (0 < s) × (s < 64) × Evens s mask ⌝ }
+    ensures { λ r. ⌜ Swapped s (a ∷ b ∷ []) (r .first ∷ r .second ∷ []) ⌝ }
+{
+    let moved = ((a >> s) ^ b) & mask;
+    Pair {
+        first: a ^ (moved << s),
+        second: b ^ moved,
+    }
+}
+
+// A swap for each two words that are four apart. They come to stand side by side, so that the next stage meets others.
+fn stage(v: [u64; 8], s: u32, mask: u64) -> [u64; 8]
+    requires { ⌜ (0 < s) × (s < 64) × Evens s mask ⌝ }
+    ensures { λ r. ⌜ Staged s v r ⌝ }
+{
+    let a = swap(v[0], v[4], s, mask);
+    let b = swap(v[1], v[5], s, mask);
+    let c = swap(v[2], v[6], s, mask);
+    let d = swap(v[3], v[7], s, mask);
+    [
+        a.first,
+        a.second,
+        b.first,
+        b.second,
+        c.first,
+        c.second,
+        d.first,
+        d.second,
+    ]
+}
+
+// From words of eight columns to words of rows of eight weights: the columns' weights and the rows' weights change places. A stage for each
+// bit of a weight's exponent.
+fn turn_weights(v: [u64; 8]) -> [u64; 8]
+    ensures { λ r. ⌜ WeightsTurned v r ⌝ }
+{
+    let by4 = stage(v, 4, 0x0f0f_0f0f_0f0f_0f0f);
+    let by2 = stage(by4, 2, 0x3333_3333_3333_3333);
+    stage(by2, 1, 0x5555_5555_5555_5555)
+}
+
+// The same of eight words and their bytes.
+fn turn_bytes(v: [u64; 8]) -> [u64; 8]
+    ensures { λ r. ⌜ BytesTurned v r ⌝ }
+{
+    let by4 = stage(v, 32, 0x0000_0000_ffff_ffff);
+    let by2 = stage(by4, 16, 0x0000_ffff_0000_ffff);
+    stage(by2, 8, 0x00ff_00ff_00ff_00ff)
+}
+
+// A word of each of the eight columns that share a byte of a row value, from a place of the first on. From weight to weight that place is
+// carried along.
+fn column_words(table: &[u8], len: usize, first: usize) -> [u64; 8]
+    requires { ⌜ (first + 7 * len + 8 ≤ length (now table)) × (len ≤ 65536) ⌝ }
+    ensures { λ r. ⌜ r ≡ columnWords (now (table .entry)) len first ⌝ }
+{
+    let mut v = [0u64; 8];
+    let mut from = first;
+    let mut weight: usize = 0;
+    while weight < 8 {
+        v[weight] = words::load64(table, from);
+        from = from + len;
+        weight += 1;
+    }
+    v
+}
+
+// Lays eight words 16 places apart.
+fn put_words(w: &mut [u64; 128], i: usize, v: [u64; 8])
     requires { ⌜ i < 16 ⌝ }
-    ensures { λ _. ⌜ now (y .exit) ≡ putOf (now (y .entry)) i v ⌝ }
+    ensures { λ _. ⌜ now (w .exit) ≡ stores set 8 (now (w .entry)) i v ⌝ }
 {
-    y[i] = v[0];
-    y[16 + i] = v[1];
-    y[32 + i] = v[2];
-    y[48 + i] = v[3];
-    y[64 + i] = v[4];
-    y[80 + i] = v[5];
-    y[96 + i] = v[6];
-    y[112 + i] = v[7];
+    let mut c: usize = 0;
+    while c < 8 {
+        w[16 * c + i] = v[c];
+        c += 1;
+    }
 }
 
-// Byte i of each of eight rows.
-fn get(y: &[u8; 128], i: usize) -> [u8; 8]
-    requires { ⌜ i < 16 ⌝ }
-    ensures { λ r. ⌜ r ≡ stepsOf (now (y .entry)) 16 i ⌝ }
+// The words of all columns from byte `at` on, weights turned. Carried along from eight columns to the next eight: their byte of a row value,
+// and where the first of them has its byte `at`.
+fn gather(len: usize, table: &[u8], at: usize) -> [u64; 128]
+    requires { ⌜ (length (now table) ≡ 128 * len) × (at + 8 ≤ len) × (len ≤ 65536) ⌝ }
+    ensures { λ w. ⌜ Gathered len (now (table .entry)) at w ⌝ }
 {
-    [
-        y[i],
-        y[i + 16],
-        y[i + 32],
-        y[i + 48],
-        y[i + 64],
-        y[i + 80],
-        y[i + 96],
-        y[i + 112],
-    ]
-}
-
-// A byte of each of eight columns, from a place of the first on.
-fn column_bytes(t: &[u8], len: usize, at: usize) -> [u8; 8]
-    requires { ⌜ at + 7 * len < length (now t) ⌝ }
-    ensures { λ r. ⌜ r ≡ stepsOf (now (t .entry)) len at ⌝ }
-{
-    [
-        t[at],
-        t[at + len],
-        t[at + 2 * len],
-        t[at + 3 * len],
-        t[at + 4 * len],
-        t[at + 5 * len],
-        t[at + 6 * len],
-        t[at + 7 * len],
-    ]
-}
-
-// The bits of weight 2^r of eight bytes, packed: a shift brings each to weight 1, a mask leaves it alone there.
-fn row_byte(v: [u8; 8], r: u8) -> u8
-    requires { ⌜ r < 8 ⌝ }
-    ensures { λ s. ⌜ s ≡ packed v r ⌝ }
-{
-    ((v[0] >> r) & 1)
-        | ((v[1] >> r) & 1) << 1
-        | ((v[2] >> r) & 1) << 2
-        | ((v[3] >> r) & 1) << 3
-        | ((v[4] >> r) & 1) << 4
-        | ((v[5] >> r) & 1) << 5
-        | ((v[6] >> r) & 1) << 6
-        | ((v[7] >> r) & 1) << 7
-}
-
-// The bits of every weight of eight bytes, packed.
-fn row_bytes(v: [u8; 8]) -> [u8; 8]
-    ensures { λ s. ⌜ s ≡ packedAll v ⌝ }
-{
-    [
-        row_byte(v, 0),
-        row_byte(v, 1),
-        row_byte(v, 2),
-        row_byte(v, 3),
-        row_byte(v, 4),
-        row_byte(v, 5),
-        row_byte(v, 6),
-        row_byte(v, 7),
-    ]
-}
-
-// Byte `at` of every column: that of column 8 * k + c stands at k + c * 16. The place is carried from eight columns to the next.
-fn gather(t: &[u8], len: usize, at: usize) -> [u8; 128]
-    requires { ⌜ (length (now t) ≡ 128 * len) × (at < len) × (len ≤ 65536) ⌝ }
-    ensures { λ r. ⌜ ((k c : ℕ) → k < 16 → c < 8 → getD r (k + c * 16) 0 ≡ getD (now (t .entry)) ((8 * k + c) * len + at) 0) ⌝ }
-{
-    let mut b = [0u8; 128];
+    let mut w = [0u64; 128];
     let mut from = at;
-    let mut i: usize = 0;
-    while i < 16 {
-        put(&mut b, i, column_bytes(t, len, from));
+    let mut byte: usize = 0;
+    while byte < 16 {
+        put_words(&mut w, byte, turn_weights(column_words(table, len, from)));
         from = from + 8 * len;
-        i += 1;
+        byte += 1;
     }
-    b
+    w
 }
 
-// Eight rows of 16 bytes from the gathered bytes. The bytes stand so that the compiler can turn 16 groups of 8 by 8 bits at once.
-fn turn(b: &[u8; 128]) -> [u8; 128]
-    ensures { λ r. ⌜ (length r ≡ 128) × ((k c : ℕ) → k < 16 → c < 8 → getD r (k + c * 16) 0 ≡ packed (stepsOf (now (b .entry)) 16 k) c) ⌝ }
+// Eight words that stand side by side.
+fn eight_words(w: &[u64; 128], at: usize) -> [u64; 8]
+    requires { ⌜ at + 8 ≤ 128 ⌝ }
+    ensures { λ r. ⌜ r ≡ sideBySide (now (w .entry)) at ⌝ }
 {
-    let mut y = [0u8; 128];
+    [
+        w[at],
+        w[at + 1],
+        w[at + 2],
+        w[at + 3],
+        w[at + 4],
+        w[at + 5],
+        w[at + 6],
+        w[at + 7],
+    ]
+}
+
+// Lays eight words as bytes, 128 bytes apart.
+fn put_bytes(rows: &mut [u8], i: usize, v: [u64; 8])
+    requires { ⌜ (i < 16) × (length (now rows) ≡ 1024) ⌝ }
+    ensures { λ _. ⌜ now (rows .exit) ≡ stores storeBytes 8 (now (rows .entry)) i v ⌝ }
+{
+    let mut c: usize = 0;
+    while c < 8 {
+        words::store64(rows, 8 * (16 * c + i), v[c]);
+        c += 1;
+    }
+}
+
+// The rows of gathered words. Eight words side by side have eight bytes of a row value, each of eight rows of one weight: with words and bytes
+// turned, each word is half of a row.
+fn lay(w: &[u64; 128], rows: &mut [u8])
+    requires { ⌜ length (now rows) ≡ 1024 ⌝ }
+    ensures { λ _. ⌜ RowsLaid (now (w .entry)) (now (rows .exit)) ⌝ }
+{
     let mut i: usize = 0;
     while i < 16 {
-        put(&mut y, i, row_bytes(get(b, i)));
+        put_bytes(rows, i, turn_bytes(eight_words(w, 8 * i)));
         i += 1;
     }
-    y
 }
 
-// Rows 8 * at to 8 * at + 7 of a table of columns of len bytes.
-pub fn eight_rows(len: usize, table: &[u8], at: usize) -> [u8; 128]
-    requires { ⌜ (length (now table) ≡ 128 * len) × (at < len) × (len ≤ 65536) ⌝ }
-    ensures { λ r. ⌜ r ≡ concat 8 (λ i. rowOf columns len (now (table .entry)) (8 * at + i)) ⌝ }
+// Rows 8 * at to 8 * at + 63 of a table of columns of len bytes.
+pub fn block_rows(len: usize, table: &[u8], at: usize, rows: &mut [u8])
+    requires { ⌜ (length (now table) ≡ 128 * len) × (at + 8 ≤ len) × (len ≤ 65536) × (length (now rows) ≡ 1024) ⌝ }
+    ensures { λ _. ⌜ now (rows .exit) ≡ concat 64 (λ i. rowOf columns len (now (table .entry)) (8 * at + i)) ⌝ }
 {
-    let b = gather(table, len, at);
-    turn(&b)
+    let w = gather(len, table, at);
+    lay(&w, rows);
 }

@@ -5,11 +5,11 @@ use Prim.Native.Nat.{ℕ, _+_, _-_, _*_, _≤_}
 use native.Mathlib.Omega.{arith}
 use lib.ListN.{length, take}
 use lib.Seq.{take-all}
-use borrow.Rule.Slice.PartMut.{mid-len}
 use Rattle.words.specs.Bytes.{part, concat}
 use Rattle.words.proofs.Concat.{concat-grow, concat-one, part-length}
 use Rattle.pads.specs.Pads.{padInput}
 use Rattle.pads.proofs.Inputs.{input-length}
+use Rattle.pads.proofs.Groups.{inside}
 use Rattle.pads.proofs.four_inputs.Statement.{statement}
 use Rattle.pads.proofs.four_inputs.Tie as tie
 
@@ -78,8 +78,8 @@ write-input-requires c κs =
     let w = c .before .before .before .loop in
     let i = w .i in
     let below = c .before .before .loop-test .taken in (
-      mid-len (i * 32) ((i + 1) * 32) (w .out) (omega (arith, below, w .inv .long)) ∙ omega arith,
-      mid-len (i * 16) ((i + 1) * 16) (s .args .values .now) (omega (arith, below, s .pre .2)) ∙ omega arith,
+      inside 4 32 i (w .out) below (w .inv .long) .1,
+      inside 4 16 i (s .args .values .now) below (s .pre .2) .1,
     )
 
 loop-less : tie.Need-loop-less Inv-loop μ-loop
