@@ -10,7 +10,7 @@
 #include <stdio.h>
 #include <string.h>
 
-enum { COLUMNS = 128, LENGTH = 128 };
+enum { COLUMNS = 128, LENGTH = 128, BLOCKS = 15 };
 
 static uint8_t key[4][32], nonce[12], message[1024], table_bytes[COLUMNS * LENGTH];
 static uint8_t roots[4096], delta[16], pads[8192], totals[8192];
@@ -45,6 +45,21 @@ static void fold_four(unsigned i) {
         sink ^= out[0] ^ out[1] ^ out[2] ^ out[3];
     }
 }
+
+/* All 960 rows of a batch of 15 blocks. */
+static void rows_with(unsigned i, void (*gather)(unsigned, const uint8_t *, uint8_t *)) {
+    uint8_t out[1024 * BLOCKS];
+    table_bytes[0] = (uint8_t)i;
+    gather(BLOCKS, table_bytes, out);
+    sink ^= out[0];
+}
+static void proved_rows(unsigned blocks, const uint8_t *table, uint8_t *rows) {
+    size_t len = 8 * (blocks + 1);
+    for (unsigned b = 0; b < blocks; b++) bench_block_rows(len, table, COLUMNS * len, b, rows + 1024 * b, 1024);
+}
+static void rows_plain(unsigned i) { rows_with(i, plain_rows); }
+static void rows_block8(unsigned i) { rows_with(i, block8_rows); }
+static void rows_proved(unsigned i) { rows_with(i, proved_rows); }
 
 static void receiver_plain(unsigned width, unsigned i) {
     uint8_t out[8192];
@@ -99,6 +114,8 @@ static const struct row rows[] = {
     {"SHA-256 block of a long message", long_plain, 16, long_one, 16, 1.0},
     {"folded word, one column", fold_plain, COLUMNS * LENGTH / 8, fold_one, COLUMNS * LENGTH / 8, 1.0},
     {"folded word, four columns at once", fold_plain, COLUMNS * LENGTH / 8, fold_four, COLUMNS * LENGTH / 8, 0.35},
+    {"rows of a batch, P = 15", rows_plain, 1, rows_proved, 1, 0.1},
+    {"the same, beside C by 8 × 8 bits", rows_block8, 1, rows_proved, 1, 1.0},
     {"receiver setup, k = 8", receiver8_plain, 1, receiver8_proved, 1, 0.6},
     {"receiver setup, k = 1", receiver1_plain, 1, receiver1_proved, 1, 0.6},
     {"sender setup, k = 8", sender8_plain, 1, sender8_proved, 1, 0.6},
@@ -134,6 +151,18 @@ static void compare(void) {
             uint64_t f = plain_fold(g, message + c * len, len);
             expect(f == folds[c] && f == bench_fold(g, message + c * len, len), "fold");
         }
+    }
+}
+
+static void compare_rows(void) {
+    static uint8_t a[1024 * BLOCKS], b[1024 * BLOCKS];
+    for (unsigned blocks = 1; blocks <= BLOCKS; blocks++) {
+        fill(table_bytes, sizeof table_bytes);
+        plain_rows(blocks, table_bytes, a);
+        proved_rows(blocks, table_bytes, b);
+        expect(!memcmp(a, b, 1024 * blocks), "rows");
+        block8_rows(blocks, table_bytes, b);
+        expect(!memcmp(a, b, 1024 * blocks), "rows by 8 x 8 bits");
     }
 }
 
@@ -188,6 +217,7 @@ static void time_rows(void) {
 
 int main(void) {
     compare();
+    compare_rows();
     compare_setups();
     compare_files();
     compare_steps();

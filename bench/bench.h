@@ -14,5 +14,7 @@ uint64_t bench_fold(uint64_t key, const uint8_t *s, size_t len);
 void bench_fold_table(uint64_t key, uint32_t table[512]);
 /* four columns of len bytes; out stays as it is where s_len is not 4 * len */
 void bench_fold_four(const uint32_t table[512], const uint8_t *s, size_t s_len, size_t len, uint64_t out[4]);
+/* the 64 rows of a block, from a table of columns of len bytes; rows stay as they are where a length does not fit */
+void bench_block_rows(size_t len, const uint8_t *table, size_t table_len, uint32_t block, uint8_t *rows, size_t rows_len);
 
 #endif

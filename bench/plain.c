@@ -215,13 +215,44 @@ void plain_sender_correct(unsigned width, const uint8_t *siblings, const uint8_t
     }
 }
 
+/* A row value, bit by bit: the place of the row and that of the column by a division each. */
+static void gather_row(size_t len, const uint8_t *table, unsigned row, uint8_t value[16]) {
+    memset(value, 0, 16);
+    for (int c = 0; c < 128; c++) value[c / 8] |= (table[c * len + row / 8] >> row % 8 & 1) << c % 8;
+}
+
+void plain_rows(unsigned blocks, const uint8_t *table, uint8_t *rows) {
+    for (unsigned row = 0; row < 64 * blocks; row++) gather_row(8 * (blocks + 1), table, row, rows + 16 * row);
+}
+
+/* Eight bytes as an 8 x 8 matrix of bits, transposed: in blocks of 1, 2 and 4 bits, what differs across the diagonal changes places. */
+static uint64_t transpose8(uint64_t x) {
+    uint64_t t = (x ^ x >> 7) & 0x00aa00aa00aa00aa;
+    x ^= t ^ t << 7;
+    t = (x ^ x >> 14) & 0x0000cccc0000cccc;
+    x ^= t ^ t << 14;
+    t = (x ^ x >> 28) & 0x00000000f0f0f0f0;
+    return x ^ t ^ t << 28;
+}
+
+void block8_rows(unsigned blocks, const uint8_t *table, uint8_t *rows) {
+    size_t len = 8 * (blocks + 1);
+    for (unsigned at = 0; at < 8 * blocks; at++, rows += 128)
+        for (unsigned k = 0; k < 16; k++) {
+            uint64_t x = 0;
+            for (int c = 0; c < 8; c++) x |= (uint64_t)table[(8 * k + c) * len + at] << 8 * c;
+            x = transpose8(x);
+            for (int r = 0; r < 8; r++) rows[16 * r + k] = (uint8_t)(x >> 8 * r);
+        }
+}
+
 /* What the pad of a row hashes. */
 static void pad_input(uint32_t batch, size_t len, const uint8_t *table, unsigned row, uint8_t m[32]) {
-    memset(m, 0, 32);
+    memset(m, 0, 16);
     memcpy(m, "PADS", 4);
     for (int j = 0; j < 4; j++) m[4 + j] = batch >> 8 * j;
     for (int j = 0; j < 4; j++) m[12 + j] = row >> 8 * j;
-    for (int c = 0; c < 128; c++) m[16 + c / 8] |= (table[c * len + row / 8] >> row % 8 & 1) << c % 8;
+    gather_row(len, table, row, m + 16);
 }
 
 void plain_receiver_answer(uint32_t batch, unsigned blocks, uint64_t key, const uint8_t *choices, const uint8_t *table,

@@ -20,5 +20,8 @@ void plain_receiver_answer(uint32_t batch, unsigned blocks, uint64_t key, const 
 /* Whether the check message is accepted; where it isn't, the pads stay. */
 int plain_sender_verify(uint32_t batch, unsigned blocks, uint64_t key, const uint8_t *table, const uint8_t delta[16],
                         const uint8_t message[1032], uint8_t *pads);
+/* All rows of a table but those of the spent block, 16 bytes each: bit by bit, and by 8 x 8 bits at once. */
+void plain_rows(unsigned blocks, const uint8_t *table, uint8_t *rows);
+void block8_rows(unsigned blocks, const uint8_t *table, uint8_t *rows);
 /* Any file: the answer, the head's values and the places, as include/softspoken.h names them. */
 struct softspoken_file plain_file_read(const uint8_t *file, size_t len);

@@ -90,10 +90,12 @@ The answer and the verify do the same work at every width.
 
 {step_table(rows, "step", "Step")}
 
-## Primitives, setups and files
+## Primitives, rows, setups and files
 
 {wrap('''The forms that do four at once are compared with plain C's one at a time. The sender's setup at k = 1 makes no node, so that row is
-exclusive or alone. The batch file is the longest, of k = 1 and P = 15 with a setup; both look at every rule, and copy nothing.''')}
+exclusive or alone. The rows of a batch are its 960 row values without their hashes: plain C divides for the place of each bit, and in the row
+below it C transposes 8 × 8 bits at once. The batch file is the longest, of k = 1 and P = 15 with a setup; both look at every rule, and copy
+nothing.''')}
 
 {work_table(rows)}
 
