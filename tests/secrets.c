@@ -158,7 +158,7 @@ static void file(uint32_t width, uint32_t blocks) {
 static void layers(void) {
     static const uint8_t nonce[12];
     static uint32_t table[512];
-    uint8_t bytes[128];
+    uint8_t bytes[128], rows[1024];
     uint32_t words[64], keys[32];
     uint64_t folds[4], fold[1];
     memcpy(keys, roots, sizeof keys);
@@ -169,6 +169,7 @@ static void layers(void) {
     RUN("sha256::four::digest", bench_sha256_four(roots, bytes), bytes);
     RUN("gf64::fold", fold[0] = bench_fold(key, roots, 128), fold);
     RUN("gf64::fold_four", bench_fold_four(table, roots, 512, 128, folds), folds);
+    RUN("rows::block_rows", bench_block_rows(16, roots, 2048, 1, RANGE(rows)), rows);
 }
 
 /* The header's functions that read a secret, as this compiler makes them. */
