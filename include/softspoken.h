@@ -78,7 +78,7 @@ extern "C" {
    there is something new. The string and the number, which is for #if, are made of these three. */
 #define SOFTSPOKEN_VERSION_MAJOR 1
 #define SOFTSPOKEN_VERSION_MINOR 2
-#define SOFTSPOKEN_VERSION_PATCH 0
+#define SOFTSPOKEN_VERSION_PATCH 1
 #define SOFTSPOKEN_VERSION_NUMBER \
     (SOFTSPOKEN_VERSION_MAJOR * 10000 + SOFTSPOKEN_VERSION_MINOR * 100 + SOFTSPOKEN_VERSION_PATCH)
 #define SOFTSPOKEN_VERSION \
