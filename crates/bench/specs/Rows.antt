@@ -15,4 +15,4 @@ blockFits len block table rows =
 -- the rows of a block, or what stood there where the lengths do not fit
 abbrev pub rowsWhere : (len block : ℕ) (table old : Range) → Range
 rowsWhere len block table old =
-    cond (blockFits len block table old) (concat 64 (λ i. rowOf columns len table (8 * (8 * block) + i))) old
+    cond (blockFits len block table old) (concat 64 (λ i. rowOf columns len table (64 * block + i))) old

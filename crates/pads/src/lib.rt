@@ -11,8 +11,8 @@ ghost use Rattle.pads.specs.Pads.{padInput, padOf, receiverPads, senderP
 // The head of each hashed block.
 const LETTERS: [u8; 4] = *b"PADS";
 
-// The groups of eight rows in a block.
-const GROUPS: usize = 8;
+// A block has so many groups of four rows.
+const GROUPS: usize = 16;
 
 // The 32 bytes that a pad is the hash of.
 fn write_input(out: &mut [u8], batch: u64, row: u32, value: &[u8])
@@ -58,16 +58,7 @@ fn four_pads(batch: u64, first: u32, values: &[u8], pads: &mut [u8])
     words::copy_part(pads, 0, &digests);
 }
 
-// The pads of eight rows.
-fn eight_pads(batch: u64, first: u32, values: &[u8], pads: &mut [u8])
-    requires { ⌜ (first + 8 ≤ 4294967296) × (length (now values) ≡ 128) × (length (now pads) ≡ 256) ⌝ }
-    ensures { λ _. ⌜ now (pads .exit) ≡ concat 8 (λ i. padOf batch (first + i) (part (i * 16) 16 (now (values .entry)))) ⌝ }
-{
-    four_pads(batch, first, &values[0..64], &mut pads[0..128]);
-    four_pads(batch, first + 4, &values[64..128], &mut pads[128..256]);
-}
-
-// The pads of the 64 rows of a block, eight at a time.
+// The pads of the 64 rows of a block, four at a time.
 fn block_pads(batch: u64, first: u32, values: &[u8], pads: &mut [u8])
     requires { ⌜ (first + 64 ≤ 4294967296) × (length (now values) ≡ 1024) × (length (now pads) ≡ 2048) ⌝ }
     ensures { λ _. ⌜ now (pads .exit) ≡ concat 64 (λ i. padOf batch (first + i) (part (i * 16) 16 (now (values .entry)))) ⌝ }
@@ -75,13 +66,13 @@ fn block_pads(batch: u64, first: u32, values: &[u8], pads: &mut [u8])
     let mut group = 0;
     while group < GROUPS {
         let next = group + 1;
-        let from = group * 128;
-        let to = next * 128;
-        let start = group * 256;
-        let end = next * 256;
-        eight_pads(
+        let from = group * 64;
+        let to = next * 64;
+        let start = group * 128;
+        let end = next * 128;
+        four_pads(
             batch,
-            first + (8 * group) as u32,
+            first + (4 * group) as u32,
             &values[from..to],
             &mut pads[start..end],
         );
@@ -89,31 +80,36 @@ fn block_pads(batch: u64, first: u32, values: &[u8], pads: &mut [u8])
     }
 }
 
-// The receiver's pads: one for each row of its table, but those of the spent block.
+// The receiver's pads: one for each row of its table, but those of the spent block. From block to block the number of its first row and the
+// byte at which that row stands are carried along.
 pub fn receiver_pads(blocks: usize, batch: u64, table: &[u8], pads: &mut [u8])
     requires { ⌜ (blocks ≤ 15) × (length (now table) ≡ tableLength blocks) × (length (now pads) ≡ receiverPadsLength blocks) ⌝ }
     ensures { λ _. ⌜ now (pads .exit) ≡ receiverPads columns blocks batch (now (table .entry)) ⌝ }
 {
     let len = 8 * (blocks + 1);
+    let mut first: u32 = 0;
+    let mut at = 0;
     let mut block = 0;
     while block < blocks {
         let next = block + 1;
         let mut values = [0u8; 1024];
-        rows::block_rows(len, table, 8 * block, &mut values);
+        rows::block_rows(len, table, at, &mut values);
         let start = block * 2048;
         let end = next * 2048;
-        block_pads(batch, (64 * block) as u32, &values, &mut pads[start..end]);
+        block_pads(batch, first, &values, &mut pads[start..end]);
+        first += 64;
+        at += 8;
         block = next;
     }
 }
 
-// Lays the pads of eight rows side by side: pad 0 before pad 1 in each row.
+// Lays the pads of four rows side by side: pad 0 before pad 1 in each row.
 fn pair_pads(pads0: &[u8], pads1: &[u8], pairs: &mut [u8])
-    requires { ⌜ (length (now pads0) ≡ 256) × (length (now pads1) ≡ 256) × (length (now pairs) ≡ 512) ⌝ }
-    ensures { λ _. ⌜ now (pairs .exit) ≡ concat 8 (λ i. part (i * 32) 32 (now (pads0 .entry)) ++ part (i * 32) 32 (now (pads1 .entry))) ⌝ }
+    requires { ⌜ (length (now pads0) ≡ 128) × (length (now pads1) ≡ 128) × (length (now pairs) ≡ 256) ⌝ }
+    ensures { λ _. ⌜ now (pairs .exit) ≡ concat 4 (λ i. part (i * 32) 32 (now (pads0 .entry)) ++ part (i * 32) 32 (now (pads1 .entry))) ⌝ }
 {
     let mut i = 0;
-    while i < 8 {
+    while i < 4 {
         let next = i + 1;
         let start = i * 32;
         let end = next * 32;
@@ -124,22 +120,22 @@ fn pair_pads(pads0: &[u8], pads1: &[u8], pairs: &mut [u8])
     }
 }
 
-// Both pads of eight rows: pad 0 hashes the row value, pad 1 the row value with delta added.
-fn eight_pairs(batch: u64, first: u32, values: &[u8], delta: &[u8], pairs: &mut [u8])
-    requires { ⌜ (first + 8 ≤ 4294967296) × (length (now values) ≡ 128) × (length (now delta) ≡ deltaLength) × (length (now pairs) ≡ 512) ⌝ }
-    ensures { λ _. ⌜ now (pairs .exit) ≡ concat 8 (λ i. padOf batch (first + i) (part (i * 16) 16 (now (values .entry))) ++ padOf batch (first + i) (xorList (part (i * 16) 16 (now (values .entry))) (now (delta .entry)))) ⌝ }
+// Both pads of four rows: pad 0 hashes the row value, pad 1 the row value with delta added.
+fn four_pairs(batch: u64, first: u32, values: &[u8], delta: &[u8], pairs: &mut [u8])
+    requires { ⌜ (first + 4 ≤ 4294967296) × (length (now values) ≡ 64) × (length (now delta) ≡ deltaLength) × (length (now pairs) ≡ 256) ⌝ }
+    ensures { λ _. ⌜ now (pairs .exit) ≡ concat 4 (λ i. padOf batch (first + i) (part (i * 16) 16 (now (values .entry))) ++ padOf batch (first + i) (xorList (part (i * 16) 16 (now (values .entry))) (now (delta .entry)))) ⌝ }
 {
-    let mut shifted = [0u8; 128];
+    let mut shifted = [0u8; 64];
     words::copy_part(&mut shifted, 0, values);
-    words::xor_parts(&mut shifted, 8, delta);
-    let mut pads0 = [0u8; 256];
-    eight_pads(batch, first, values, &mut pads0);
-    let mut pads1 = [0u8; 256];
-    eight_pads(batch, first, &shifted, &mut pads1);
+    words::xor_parts(&mut shifted, 4, delta);
+    let mut pads0 = [0u8; 128];
+    four_pads(batch, first, values, &mut pads0);
+    let mut pads1 = [0u8; 128];
+    four_pads(batch, first, &shifted, &mut pads1);
     pair_pads(&pads0, &pads1, pairs);
 }
 
-// Both pads of the 64 rows of a block, eight at a time.
+// Both pads of the 64 rows of a block, four rows at a time.
 fn block_pairs(batch: u64, first: u32, values: &[u8], delta: &[u8], pairs: &mut [u8])
     requires { ⌜ (first + 64 ≤ 4294967296) × (length (now values) ≡ 1024) × (length (now delta) ≡ deltaLength) × (length (now pairs) ≡ 4096) ⌝ }
     ensures { λ _. ⌜ now (pairs .exit) ≡ concat 64 (λ i. padOf batch (first + i) (part (i * 16) 16 (now (values .entry))) ++ padOf batch (first + i) (xorList (part (i * 16) 16 (now (values .entry))) (now (delta .entry)))) ⌝ }
@@ -147,13 +143,13 @@ fn block_pairs(batch: u64, first: u32, values: &[u8], delta: &[u8], pairs: &mut 
     let mut group = 0;
     while group < GROUPS {
         let next = group + 1;
-        let from = group * 128;
-        let to = next * 128;
-        let start = group * 512;
-        let end = next * 512;
-        eight_pairs(
+        let from = group * 64;
+        let to = next * 64;
+        let start = group * 256;
+        let end = next * 256;
+        four_pairs(
             batch,
-            first + (8 * group) as u32,
+            first + (4 * group) as u32,
             &values[from..to],
             delta,
             &mut pairs[start..end],
@@ -162,26 +158,25 @@ fn block_pairs(batch: u64, first: u32, values: &[u8], delta: &[u8], pairs: &mut 
     }
 }
 
-// The sender's pads: two for each row of its table, but those of the spent block.
+// The sender's pads: two for each row of its table, but those of the spent block. Number and byte of a block's first row are carried as the
+// receiver's are.
 pub fn sender_pads(blocks: usize, batch: u64, table: &[u8], delta: &[u8], pads: &mut [u8])
     requires { ⌜ (blocks ≤ 15) × (length (now table) ≡ tableLength blocks) × (length (now delta) ≡ deltaLength) × (length (now pads) ≡ senderPadsLength blocks) ⌝ }
     ensures { λ _. ⌜ now (pads .exit) ≡ senderPads columns blocks batch (now (table .entry)) (now (delta .entry)) ⌝ }
 {
     let len = 8 * (blocks + 1);
+    let mut first: u32 = 0;
+    let mut at = 0;
     let mut block = 0;
     while block < blocks {
         let next = block + 1;
         let mut values = [0u8; 1024];
-        rows::block_rows(len, table, 8 * block, &mut values);
+        rows::block_rows(len, table, at, &mut values);
         let start = block * 4096;
         let end = next * 4096;
-        block_pairs(
-            batch,
-            (64 * block) as u32,
-            &values,
-            delta,
-            &mut pads[start..end],
-        );
+        block_pairs(batch, first, &values, delta, &mut pads[start..end]);
+        first += 64;
+        at += 8;
         block = next;
     }
 }

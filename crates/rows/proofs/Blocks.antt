@@ -15,7 +15,7 @@ use Rattle.words.proofs.Numbers.{word64-bit, bytes-bit}
 use Rattle.words.proofs.Concat.{next-place, concat-length, concat-at, part-at}
 use Rattle.tree.specs.Layout.{columnOf}
 use Rattle.rows.specs.Row.{rowOf}
-use Rattle.rows.specs.Place.{placeOf}
+use Rattle.rows.specs.Place.{placeOf, Stands}
 use Rattle.rows.specs.Gather.{WeightsTurned, BytesTurned, columnWords, sideBySide, Gathered, RowsLaid}
 use Rattle.rows.proofs.RowLaws.{row-at, row-length}
 use Rattle.rows.proofs.Places.{stands, number-is, bit-there}
@@ -95,40 +95,44 @@ rows-laid w rows laid j c q r k b hq hr hk hb row column =
     ∙ laid (2 * r + k / 8) q (k % 8) (omega arith) hq (omega arith) b hb
     ∙ ap (λ (n : ℕ). bitOf (getD w n 0) (8 * q + b)) back
 
--- gathered words, laid, are the rows of the block
-pub rows-are : (t w rows : List ℕ) (len at : ℕ) → Gathered len t at w → RowsLaid w rows → length rows ≡ 1024 → Bytes rows
-    → rows ≡ concat 64 (λ i. rowOf 128 len t (8 * at + i))
-rows-are t w rows len at gathered laid e small =
+-- gathered words, laid, are the rows of the block, from the row on that stands at its byte
+pub rows-are : (t w rows : List ℕ) (len at first : ℕ) → Gathered len t at w → RowsLaid w rows → length rows ≡ 1024 → Bytes rows
+    → Stands first at 0 → rows ≡ concat 64 (λ i. rowOf 128 len t (first + i))
+rows-are t w rows len at first gathered laid e small here =
     ext-getD 0 rows (concat 64 row) (e ∙ sym (concat-length row 16 64 each))
     (λ p hp.
     let back : p / 16 * 16 + p % 16 ≡ p = omega arith in
     sym (ofBits-is 8 (bits (p / 16) (p % 16)) (getD rows p 0) (small p) (λ b hb. bit p b (omega arith) hb))
-    ∙ sym (row-at 128 len t (8 * at + p / 16) (p % 16) (omega arith))
+    ∙ sym (row-at 128 len t (first + p / 16) (p % 16) (omega arith))
     ∙ sym (concat-at row 16 64 each (p / 16) (p % 16) (omega arith) (omega arith))
     ∙ ap (λ (x : ℕ). getD (concat 64 row) x 0) back)
   where
     row : ℕ → List ℕ
-    row i = rowOf 128 len t (8 * at + i)
+    row i = rowOf 128 len t (first + i)
 
     each : (i : ℕ) → i < 64 → length (row i) ≡ 16
-    each i h = row-length 128 len t (8 * at + i)
+    each i h = row-length 128 len t (first + i)
 
     bits : (j k b : ℕ) → ℕ
-    bits j k b = bitAt (columnOf len t (8 * k + b)) (8 * at + j)
+    bits j k b = bitAt (columnOf len t (8 * k + b)) (first + j)
 
-    inside : (j : ℕ) → j ≡ 8 * (j / 8) + j % 8
-    inside j = omega arith
+    -- where row j stands, among those of the table and among those of the block
+    in-table : (j : ℕ) → Stands (first + j) (at + j / 8) (j % 8)
+    in-table j =
+        let e : first + j ≡ 8 * (at + j / 8) + j % 8 = omega (arith, number-is first at 0 here) in
+        ap placeOf e ∙ stands (at + j / 8) (j % 8)
+
+    in-block : (j : ℕ) → Stands j (j / 8) (j % 8)
+    in-block j =
+        let e : j ≡ 8 * (j / 8) + j % 8 = omega arith in
+        ap placeOf e ∙ stands (j / 8) (j % 8)
 
     bit : (p b : ℕ) → p < 1024 → b < 8 → bits (p / 16) (p % 16) b ≡ bitOf (getD rows p 0) b
     bit p b hp hb =
         let j : ℕ = p / 16 in
         let k : ℕ = p % 16 in
-        let row : 8 * (at + j / 8) + j % 8 ≡ 8 * at + j = omega arith in
         let there : j * 16 + k ≡ p = omega arith in
-        sym
-        (gathered (8 * at + j) (8 * k + b) (j / 8) (j % 8) k b (omega arith) (omega arith) (omega arith) hb
-        (ap placeOf (sym row) ∙ stands (at + j / 8) (j % 8)) (stands k b))
-        ∙ sym
-        (laid j (8 * k + b) (j / 8) (j % 8) k b (omega arith) (omega arith) (omega arith) hb (ap placeOf (inside j) ∙ stands (j / 8) (j % 8)) (stands k b))
+        sym (gathered (first + j) (8 * k + b) (j / 8) (j % 8) k b (omega arith) (omega arith) (omega arith) hb (in-table j) (stands k b))
+        ∙ sym (laid j (8 * k + b) (j / 8) (j % 8) k b (omega arith) (omega arith) (omega arith) hb (in-block j) (stands k b))
         ∙ bit-there (part (j * 16) 16 rows) (8 * k + b) k b hb (stands k b)
         ∙ ap (λ (y : ℕ). bitOf y b) (part-at (j * 16) 16 rows k (omega arith) ∙ ap (λ (x : ℕ). getD rows x 0) there)

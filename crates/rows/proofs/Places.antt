@@ -82,6 +82,12 @@ same-number i j e =
 pub number-is : (j byte n : ℕ) → Stands j byte n → j ≡ 8 * byte + n
 number-is j byte n h = same-number j (8 * byte + n) (h ∙ carried-from byte n)
 
+-- m bytes on stands the number that is 8m further, at the same weight
+pub stands-on : (m j byte n : ℕ) → Stands j byte n → Stands (j + 8 * m) (byte + m) n
+stands-on m j byte n h =
+    let e : j + 8 * m ≡ 8 * (byte + m) + n = omega (arith, number-is j byte n h) in
+    ap placeOf e ∙ stands (byte + m) n
+
 -- the bit of a range at the place where a number stands
 pub bit-there : (s : List ℕ) (j byte n : ℕ) → n < 8 → Stands j byte n → bitAt s j ≡ bitOf (getD s byte 0) n
 bit-there s j byte n h here =

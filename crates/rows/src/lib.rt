@@ -4,11 +4,12 @@
 // Eight such words change bits with each other, by shifts and masks, until rows stand where columns stood: first weights, then bytes.
 ghost use mathlib.Core.Path.{_≡_};
 ghost use mathlib.Core.List.{[], _∷_};
-ghost use Prim.Native.Nat.{_+_, _*_, _≤_, _<_};
+ghost use Prim.Native.Nat.{ℕ, _+_, _*_, _≤_, _<_};
 ghost use lib.ListN.{length, set};
 ghost use Rattle.words.specs.Bytes.{concat};
 ghost use Rattle.sizes.specs.Sizes.{columns};
 ghost use Rattle.rows.specs.Row.{rowOf};
+ghost use Rattle.rows.specs.Place.{Stands};
 ghost use Rattle.rows.specs.Gather.{Evens, Swapped, Staged, WeightsTurned, BytesTurned, columnWords, sideBySide, stores, storeBytes, Gathered, RowsLaid};
 
 // Two words that changed bits.
@@ -157,10 +158,10 @@ fn lay(w: &[u64; 128], rows: &mut [u8])
     }
 }
 
-// Rows 8 * at to 8 * at + 63 of a table of columns of len bytes.
+// The 64 rows of a table of columns of len bytes from that row on which stands at byte `at`, weight 1.
 pub fn block_rows(len: usize, table: &[u8], at: usize, rows: &mut [u8])
     requires { ⌜ (length (now table) ≡ 128 * len) × (at + 8 ≤ len) × (len ≤ 65536) × (length (now rows) ≡ 1024) ⌝ }
-    ensures { λ _. ⌜ now (rows .exit) ≡ concat 64 (λ i. rowOf columns len (now (table .entry)) (8 * at + i)) ⌝ }
+    ensures { λ _. ⌜ ((j : ℕ) → Stands j at 0 → now (rows .exit) ≡ concat 64 (λ i. rowOf columns len (now (table .entry)) (j + i))) ⌝ }
 {
     let w = gather(len, table, at);
     lay(&w, rows);

@@ -6,30 +6,23 @@ use Prim.Native.Nat.{ℕ, zero, suc, _+_, _-_, _*_, _/_, _%_, _^_, _≤_, _<_}
 use native.Mathlib.Nat.{zero-mul, one-mul, mul-zero, add-comm, div-eq-of-lt, add-mul-mod-self-right}
 use native.Mathlib.Omega.{arith}
 use lib.Bits.{bitXor, xor-comm, xor-self, xor-shr, xor-block, xor-zero-r}
-use lib.Pow.{pow-lt, shr-shr, field, mod-mod-pow}
+use lib.Pow.{pow-lt}
 use Rattle.words.specs.Bits.{bitOf}
 use Rattle.words.specs.Xor.{_⊕_, sumTo}
 use Rattle.words.proofs.Xor.{digit, bit-lt, bit-xor, bits-scale, scale-xor, xor-assoc, xor-swap, xor-cancel}
 use Rattle.words.proofs.Sums.{zero-bit}
+use Rattle.words.proofs.Shifts.{bit-shr, bit-cut}
 use Rattle.tree.specs.Tree.{sumBelow}
 use Rattle.tree.specs.Path.{pathBit, pathNumber, siblingNumber}
 use Rattle.tree.proofs.Sums.{sum-same, sum-xor, sum-times, sum-number, sum-shift}
 use Rattle.tree.proofs.Path.{path-bit-lt, path-number}
 
--- ---- the bits of a number below bit r, and from there on
-
-low-bits : (x r b : ℕ) → b < r → bitOf (x % 2 ^ r) b ≡ bitOf x b
-low-bits x r b h =
-    let e : r ≡ (r - 1 - b) + (1 + b) = omega arith in
-    sym (field (x % 2 ^ r) 1 b)
-    ∙ ap (λ (i : ℕ). x % 2 ^ i % 2 ^ (1 + b) / 2 ^ b) e
-    ∙ ap (λ (y : ℕ). y / 2 ^ b) (mod-mod-pow x (r - 1 - b) (1 + b))
-    ∙ field x 1 b
+-- ---- the bits of a number from bit r on, and of 1
 
 high-bits : (x r b : ℕ) → r ≤ b → bitOf x b ≡ bitOf (x / 2 ^ r) (b - r)
 high-bits x r b h =
-    let e : b ≡ r + (b - r) = omega arith in
-    ap (λ (i : ℕ). x / 2 ^ i % 2) e ∙ ap (λ (y : ℕ). y % 2) (sym (shr-shr x r (b - r)))
+    let e : b ≡ b - r + r = omega arith in
+    ap (bitOf x) e ∙ sym (bit-shr x r (b - r))
 
 -- 1 has no other bit
 one-bit : (b : ℕ) → 0 < b → bitOf 1 b ≡ 0
@@ -79,9 +72,9 @@ low-leaves r b y n g h =
     ∙ sum-same r n 0 (λ z m. bitOf (y * 2 ^ r + z) b * g m) (λ z m. bitOf z b * g m)
     (λ z m q.
     ap (λ (x : ℕ). x * g m)
-    (sym (low-bits (y * 2 ^ r + z) r b h)
+    (sym (bit-cut r (y * 2 ^ r + z) b h)
     ∙ ap (λ (x : ℕ). bitOf x b) (ap (λ (x : ℕ). x % 2 ^ r) (add-comm (y * 2 ^ r) z) ∙ add-mul-mod-self-right z y (2 ^ r))
-    ∙ low-bits z r b h))
+    ∙ bit-cut r z b h))
 
 -- the ⊕ over the leaves below the sibling of level l: of all, of those whose number within the subtree has bit b, and of those that the
 -- sender's column counts

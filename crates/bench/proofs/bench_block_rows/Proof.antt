@@ -3,12 +3,15 @@ use mathlib.Core.Bool.{Bool, cond, _&&_}
 use mathlib.Core.List.{List}
 use mathlib.Core.Path.{_≡_, refl, sym, ap, ap₂, _∙_}
 use Prim.Native.Nat.{ℕ, _+_, _*_}
+use native.Mathlib.Omega.{arith}
 use borrow.Author.Needs.{needs}
 use borrow.Author.Tests.{le-leb, lt-leb, eq-eqb, ne-eqb}
 use lib.Dec.{eqb, leb}
 use lib.ListN.{length}
 use Rattle.words.specs.Bytes.{concat}
 use Rattle.rows.specs.Row.{rowOf}
+use Rattle.rows.specs.Place.{placeOf}
+use Rattle.rows.proofs.Places.{stands}
 use Rattle.bench.specs.Rows.{rowsWhere}
 use Rattle.bench.proofs.bench_block_rows.Statement.{statement}
 use Rattle.bench.proofs.bench_block_rows.Tie as tie
@@ -16,10 +19,10 @@ use Rattle.bench.proofs.bench_block_rows.Tie as tie
 -- what the four tests say, and what is had then
 tested : (len block : ℕ) (table rows : List ℕ) {p q r s : Bool}
     → leb len 65536 ≡ p → eqb (length table) (128 * len) ≡ q → leb (8 * block + 8) len ≡ r → eqb (length rows) 1024 ≡ s
-    → cond (p && (q && (r && s))) (concat 64 (λ i. rowOf 128 len table (8 * (8 * block) + i))) rows ≡ rowsWhere len block table rows
+    → cond (p && (q && (r && s))) (concat 64 (λ i. rowOf 128 len table (64 * block + i))) rows ≡ rowsWhere len block table rows
 tested len block table rows hp hq hr hs =
     sym
-    (ap (λ (b : Bool). cond b (concat 64 (λ i. rowOf 128 len table (8 * (8 * block) + i))) rows)
+    (ap (λ (b : Bool). cond b (concat 64 (λ i. rowOf 128 len table (64 * block + i))) rows)
     (ap₂ _&&_ hp (ap₂ _&&_ hq (ap₂ _&&_ hr hs))))
 
 mul-at : tie.Need-mul-at
@@ -65,7 +68,8 @@ returns-5 : tie.Need-returns-5
 returns-5 c =
     let t = c .before .before .before .before in
     let a = t .before .before .before .before .before .before .args in
-    c .before .before .block-rows .ensures
+    let e : 64 * a .block ≡ 8 * (8 * a .block) + 0 = omega arith in
+    c .before .before .block-rows .ensures (64 * a .block) (ap placeOf e ∙ stands (8 * a .block) 0)
     ∙ tested (a .len) (a .block) (a .table .now) (a .rows .now) (le-leb (a .len) 65536 (t .before .before .before .if1 .left))
     (eq-eqb (length (a .table .now)) (128 * a .len) (t .before .before .if2 .left)) (le-leb (8 * a .block + 8) (a .len) (t .before .if3 .left))
     (eq-eqb (length (a .rows .now)) 1024 (t .if4 .left))

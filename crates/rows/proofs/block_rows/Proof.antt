@@ -19,7 +19,7 @@ returns c =
     let laid = c .before .before .lay in
     let w = c .before .before .before .before .before .gather in
     let s = c .before .before .before .before .before .before .before .before in
-    rows-are (s .args .table .now) (w .result) (laid .last .1 .0) (s .args .len) (s .args .at) (w .ensures) (laid .ensures)
+    λ j. rows-are (s .args .table .now) (w .result) (laid .last .1 .0) (s .args .len) (s .args .at) j (w .ensures) (laid .ensures)
     (laid .kept .1 .0 ∙ s .pre .3) (λ i. c .slice-known2 .given i .fits)
 
 pub block-rows-spec : {M : Type 1} → statement M

@@ -10,14 +10,14 @@ use Rattle.rows.proofs.Stores.{words-length, words-more}
 use Rattle.rows.proofs.gather.Statement.{statement}
 use Rattle.rows.proofs.gather.Tie as tie
 
-record Begun (table : List ℕ) (len at : ℕ) (w : List ℕ) (from byte : ℕ) : Type 0 where
+record TurnedTo (table : List ℕ) (len at : ℕ) (w : List ℕ) (from byte : ℕ) : Type 0 where
   low : byte ≤ 16
   long : length w ≡ 128
   place : from ≡ at + byte * (8 * len)
   turned : (k r : ℕ) → k < byte → r < 8 → Turned table len at k r (getD w (16 * r + k) 0)
 
 abbrev Inv-loop : tie.InvT-loop
-Inv-loop len table at w₀ from₀ byte₀ w from byte = Begun table len at w from byte
+Inv-loop len table at w₀ from₀ byte₀ w from byte = TurnedTo table len at w from byte
 
 abbrev μ-loop : tie.MeasureT-loop
 μ-loop len table at w₀ from₀ byte₀ w from byte = 16 - byte

@@ -11,13 +11,13 @@ use Rattle.rows.proofs.Stores.{bytes-length, bytes-more}
 use Rattle.rows.proofs.lay.Statement.{statement}
 use Rattle.rows.proofs.lay.Tie as tie
 
-record Begun (w rows : List ℕ) (i : ℕ) : Type 0 where
+record LaidTo (w rows : List ℕ) (i : ℕ) : Type 0 where
   low : i ≤ 16
   long : length rows ≡ 1024
   laid : (k c x : ℕ) → k < i → c < 8 → x < 8 → LaidByte w k c x (getD rows (8 * (16 * c + k) + x) 0)
 
 abbrev Inv-loop : tie.InvT-loop
-Inv-loop w rows₀ i₀ rows i = Begun w rows i
+Inv-loop w rows₀ i₀ rows i = LaidTo w rows i
 
 abbrev μ-loop : tie.MeasureT-loop
 μ-loop w rows₀ i₀ rows i = 16 - i
