@@ -1,10 +1,10 @@
 /* Calls two archives of the library in one process: that of the commit before a change, to whose names bench/beside adds before_, and
    that of the change. Every output byte, answer and record must be the same; both are timed in turn, the least of many passes. Writes a
    line for each function, width and number of blocks. Ends with 1 where something differs, or a call takes longer than LIMIT times what
-   it took before, plus SLACK. Both archives are called as include/softspoken.h declares, so this serves changes that keep the
-   signatures and the record's layout. */
+   it took before, plus SLACK. Each archive is called as its own header declares (side.c). */
 #include "../include/softspoken.h"
 #include "measure.h"
+#include "side.h"
 #include <stdio.h>
 #include <string.h>
 
@@ -16,23 +16,16 @@
 /* Rounds of four passes in a measurement; how often a row that seems above the limit is measured again. */
 enum { ROUNDS = 500, AGAIN = 3 };
 
-#define FUNCTIONS(each) \
-    each(receiver_setup) each(sender_setup) each(open) each(receiver_start) each(sender_correct) each(receiver_answer) each(sender_verify)
-#define DECLARED(name) __typeof__(softspoken_##name) before_softspoken_##name;
-#define POINTER(name) __typeof__(softspoken_##name) *name;
-#define OLD(name) before_softspoken_##name,
-#define NEW(name) softspoken_##name,
+static const struct side *const archives[2] = {&before_side, &after_side};
 
-FUNCTIONS(DECLARED)
-static const struct archive { FUNCTIONS(POINTER) } archives[2] = {{FUNCTIONS(OLD)}, {FUNCTIONS(NEW)}};
-
-/* What both sides of a pair lend, with room for any width and number of blocks; last is the record's before a batch. No padding, so
-   that two can be compared as bytes. */
+/* What both sides of a pair lend, with room for any width and number of blocks; last is the record's before a batch, and first the first
+   number that a batch is given. No padding, so that two can be compared as bytes. */
 enum { MOST = SOFTSPOKEN_BLOCKS_MAX };
 struct pair {
-    struct softspoken_record record;
-    uint64_t key;
-    uint32_t answer, width, blocks, last;
+    struct numbers record;
+    uint64_t key, last, first;
+    uint32_t answer, width;
+    uint64_t blocks;
     uint8_t roots[SOFTSPOKEN_ROOTS_BYTES(1)], delta[SOFTSPOKEN_DELTA_BYTES];
     uint8_t receiver_base_pads[SOFTSPOKEN_RECEIVER_BASE_PADS_BYTES], sender_base_pads[SOFTSPOKEN_SENDER_BASE_PADS_BYTES];
     uint8_t setup_message[SOFTSPOKEN_SETUP_MESSAGE_BYTES], siblings[SOFTSPOKEN_SIBLINGS_BYTES];
@@ -43,10 +36,10 @@ struct pair {
 #define RANGE(array) (array), sizeof(array)
 
 /* What a call takes and writes. Both archives write to the same place, so that no place is better for one of them. */
-static const struct archive *lib;
+static const struct side *lib;
 static const struct pair *in;
 static struct pair out;
-static uint32_t batch;
+static uint64_t batch;
 
 /* Each calls a function once; a step gets its record as it stands before that step. */
 
@@ -60,32 +53,32 @@ static uint32_t sender_setup(void) {
 }
 
 static uint32_t open_session(void) {
-    out.record = (struct softspoken_record){0, batch, in->blocks, SOFTSPOKEN_STAGE_CLOSED};
+    out.record = (struct numbers){0, batch, in->blocks, SOFTSPOKEN_STAGE_CLOSED};
     return lib->open(&out.record, in->width);
 }
 
 static uint32_t receiver_start(void) {
-    out.record = (struct softspoken_record){in->width, in->last, 0, SOFTSPOKEN_STAGE_READY};
+    out.record = (struct numbers){in->width, in->last, 0, SOFTSPOKEN_STAGE_READY};
     return lib->receiver_start(&out.record, in->roots, SOFTSPOKEN_ROOTS_BYTES(in->width), batch, in->blocks, out.choices,
                                SOFTSPOKEN_CHOICES_BYTES(in->blocks), out.v, SOFTSPOKEN_TABLE_BYTES(in->blocks), out.correction,
                                SOFTSPOKEN_CORRECTION_BYTES(in->width, in->blocks));
 }
 
 static uint32_t sender_correct(void) {
-    out.record = (struct softspoken_record){in->width, in->last, 0, SOFTSPOKEN_STAGE_READY};
+    out.record = (struct numbers){in->width, in->last, 0, SOFTSPOKEN_STAGE_READY};
     return lib->sender_correct(&out.record, RANGE(in->siblings), RANGE(in->delta), batch, in->blocks, in->correction,
                                SOFTSPOKEN_CORRECTION_BYTES(in->width, in->blocks), out.w, SOFTSPOKEN_TABLE_BYTES(in->blocks));
 }
 
 static uint32_t receiver_answer(void) {
-    out.record = (struct softspoken_record){in->width, batch, in->blocks, SOFTSPOKEN_STAGE_OPEN};
+    out.record = (struct numbers){in->width, batch, in->blocks, SOFTSPOKEN_STAGE_OPEN};
     return lib->receiver_answer(&out.record, in->key, in->choices, SOFTSPOKEN_CHOICES_BYTES(in->blocks), in->v,
                                 SOFTSPOKEN_TABLE_BYTES(in->blocks), RANGE(out.message), out.receiver_pads,
                                 SOFTSPOKEN_RECEIVER_PADS_BYTES(in->blocks));
 }
 
 static uint32_t sender_verify(void) {
-    out.record = (struct softspoken_record){in->width, batch, in->blocks, SOFTSPOKEN_STAGE_OPEN};
+    out.record = (struct numbers){in->width, batch, in->blocks, SOFTSPOKEN_STAGE_OPEN};
     return lib->sender_verify(&out.record, in->key, in->w, SOFTSPOKEN_TABLE_BYTES(in->blocks), RANGE(in->delta), RANGE(in->message),
                               out.sender_pads, SOFTSPOKEN_SENDER_PADS_BYTES(in->blocks));
 }
@@ -104,7 +97,7 @@ static const struct { const char *name; uint32_t (*call)(void); int of_batch; } 
 static int chosen; /* the call that work makes */
 
 static void work(unsigned i) {
-    batch = in->last + 1 + i;
+    batch = in->first + i;
     out.answer = calls[chosen].call();
 }
 
@@ -113,12 +106,13 @@ static void prepare(struct pair *p, uint32_t width, uint32_t blocks) {
     fill(p, sizeof *p);
     p->width = width;
     p->blocks = blocks;
-    p->last = random64() >> 33; /* so that many batches can follow */
+    p->last = random64() >> 33; /* so that many batches can follow, in 32 bits too */
+    p->first = p->last + 1;
     for (uint32_t t = 0; t < SOFTSPOKEN_BASE_TRANSFERS; t++) {
         unsigned choice = softspoken_base_choice(width, p->delta, t);
         memcpy(p->sender_base_pads + 32 * t, p->receiver_base_pads + 64 * t + 32 * choice, 32);
     }
-    lib = &archives[0];
+    lib = archives[0];
     in = p;
     for (chosen = 0; chosen < CALLS; chosen++) {
         out = *p;
@@ -132,7 +126,7 @@ static void prepare(struct pair *p, uint32_t width, uint32_t blocks) {
 static struct pair blank, kept;
 
 static void begin(int archive) {
-    lib = &archives[archive];
+    lib = archives[archive];
     out = blank;
 }
 
@@ -163,9 +157,12 @@ static void compare(void) {
         compare_calls();
         p.message[random64() % sizeof p.message] ^= 1 << n % 8;
         compare_calls();
-        p.last = UINT32_MAX; /* the next is 0 */
+        p.first = p.last;
         compare_calls();
-        p.last = p.blocks = 0;
+        p.last = p.first = 0;
+        compare_calls();
+        p.first = 1;
+        p.blocks = 0;
         compare_calls();
         p.width = 3;
         compare_calls();
