@@ -11,7 +11,7 @@ use lib.Seq.{take-all}
 use borrow.Author.Tests.{eqb-true, eq-eqb, ne-eqb, le-leb, lt-leb}
 use Rattle.words.specs.Bytes.{littleEndian, word32, part}
 use Rattle.words.proofs.Concat.{part-at, part-length, part-part}
-use Rattle.words.proofs.Numbers.{word32-part}
+use Rattle.words.proofs.Numbers.{word32-here}
 use Rattle.sizes.specs.Sizes.{headLength}
 use Rattle.answer.specs.declared.Answer.the-variants.{Contents, Body}
 use Rattle.answer.specs.Answer.{isDone, firstOf}
@@ -64,7 +64,7 @@ six file at h =
     = λ i j lt e. part-at at 6 file i lt ∙ ap (λ (k : ℕ). getD file k 0) e in
     let batch : littleEndian (drop 2 body) ≡ word32 file (at + 2)
     = ap littleEndian (sym (take-all 4 (drop 2 body) (omega (arith, length-drop 2 body, part-length at 6 file h))) ∙ part-part 2 4 at 6 file (omega arith))
-    ∙ sym (word32-part file (at + 2)) in
+    ∙ sym (word32-here file (at + 2)) in
     ap (λ (x : ℕ). record { width = getD body 0 0; blocks = getD body 1 0; batch = x }) batch
     ∙ ap₂ (λ (x y : ℕ). record { width = x; blocks = y; batch = word32 file (at + 2) })
     (byte 0 at (omega arith) (omega arith)) (byte 1 (at + 1) (omega arith) (omega arith))
