@@ -96,7 +96,8 @@ static void sender1_proved(unsigned i) { sender_proved(1, i); }
 
 /* The longest file: k = 1, P = 15, with a setup. Its batch number depends on i. */
 static void file_with(unsigned i, struct softspoken_file (*read)(const uint8_t *, size_t)) {
-    put_le32(file + SOFTSPOKEN_FILE_CONTENTS_BYTES(5) + SOFTSPOKEN_SETUP_MESSAGE_BYTES + 2, i + 1);
+    const uint64_t batch = (i + 1) * 0x100000001; /* one store, so that neither reader waits for bytes to be put together */
+    memcpy(file + SOFTSPOKEN_FILE_CONTENTS_BYTES(5) + SOFTSPOKEN_SETUP_MESSAGE_BYTES + 2, &batch, sizeof batch);
     struct softspoken_file found = read(file, SOFTSPOKEN_FILE_MAX);
     sink ^= found.answer ^ found.batch ^ found.check;
 }
@@ -185,17 +186,18 @@ static int same_file(struct softspoken_file a, struct softspoken_file b) {
            a.head == b.head && a.correction == b.correction && a.key == b.key && a.check == b.check && a.end == b.end;
 }
 
-/* Files of every width and number of blocks, some with batch 0; then with the length of a body, a byte of contents or head, or the end
-   changed. */
+/* Files of every width and number of blocks, with either head, some with batch 0; then with the length of a body, a byte of contents or
+   head, or the end changed. */
 static void compare_files(void) {
     for (uint32_t n = 0; n < 12000; n++) {
         uint32_t width = 1u << n % 4, blocks = 1 + n / 4 % 15, first = 1 + n / 60 % 2;
         struct lengths lengths = lengths_for(width, blocks);
+        if (random64() % 2) lengths.of[SOFTSPOKEN_FILE_HEAD] = SOFTSPOKEN_FILE_SHORT_HEAD_BYTES;
         int change = n / 120 % 4;
         if (change == 1) lengths.of[1 + random64() % 5] += random64() % 2 ? 1 : -1;
-        size_t len = lay_file(file, first, lengths, width, blocks, random64() % 20 ? (uint32_t)random64() : 0);
+        size_t len = lay_file(file, first, lengths, width, blocks, random64() % 20 ? random64() >> random64() % 64 : 0);
         size_t head = SOFTSPOKEN_FILE_CONTENTS_BYTES(6 - first) + (first == 1 ? lengths.of[1] : 0), at = random64() % 128;
-        if (change == 2) file[at < 64 ? at : head + at % 6] = (uint8_t)random64() % (at % 2 ? 20 : 255);
+        if (change == 2) file[at < 64 ? at : head + at % 10] = (uint8_t)random64() % (at % 2 ? 20 : 255);
         if (change == 3) len = random64() % (len + 2);
         expect(same_file(plain_file_read(file, len), softspoken_file_read(file, len)), "batch file read");
     }

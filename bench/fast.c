@@ -124,8 +124,8 @@ INLINE void quarter(lanes *s, int a, int b, int c, int d) {
     s[c] += s[d]; s[b] = rotl(s[b] ^ s[c], 7);
 }
 
-static void block(const lanes key[8], uint32_t counter, uint32_t use, uint32_t batch, lanes *restrict out) {
-    const uint32_t constant[4] = {0x61707865, 0x3320646e, 0x79622d32, 0x6b206574}, last[4] = {counter, use, batch, 0};
+static void block(const lanes key[8], uint32_t counter, uint32_t use, uint64_t batch, lanes *restrict out) {
+    const uint32_t constant[4] = {0x61707865, 0x3320646e, 0x79622d32, 0x6b206574}, last[4] = {counter, use, (uint32_t)batch, batch >> 32};
     lanes s[16];
     for (int i = 0; i < 4; i++) s[i] = broadcast(constant[i]), s[12 + i] = broadcast(last[i]);
     for (int i = 0; i < 8; i++) s[4 + i] = key[i];
@@ -145,7 +145,7 @@ static void block(const lanes key[8], uint32_t counter, uint32_t use, uint32_t b
 
 /* The walk over a tree in every lane, depth first, so that all of it stays in the first cache. */
 
-struct walk { uint32_t batch; unsigned words; lanes column[8][32]; };
+struct walk { uint64_t batch; unsigned words; lanes column[8][32]; };
 
 /* Gives the sum of the streams of the leaves below a node. A right subtree's sum goes into the column of its level, so that a leaf is in
    column b where its number has bit b: one addition a node, and none a leaf. */
@@ -165,7 +165,7 @@ static void add_below(struct walk *a, const lanes node[8], unsigned levels, lane
     }
 }
 
-void fast_receiver_start(unsigned width, const uint8_t *roots, uint32_t batch, unsigned blocks, uint8_t *choices, uint8_t *table,
+void fast_receiver_start(unsigned width, const uint8_t *roots, uint64_t batch, unsigned blocks, uint8_t *choices, uint8_t *table,
                          uint8_t *correction) {
     size_t len = 8 * (blocks + 1);
     struct walk a;
@@ -207,7 +207,7 @@ static lanes delta_mask(const uint8_t delta[16], unsigned first, unsigned step) 
 
 /* Sibling r has r levels below it. With u the correction and the sums below siblings r + 1 and up, column r is what their walks have added
    to it, the sum below sibling r, and u where delta's bit r is 1. */
-void fast_sender_correct(unsigned width, const uint8_t *siblings, const uint8_t delta[16], uint32_t batch, unsigned blocks,
+void fast_sender_correct(unsigned width, const uint8_t *siblings, const uint8_t delta[16], uint64_t batch, unsigned blocks,
                          const uint8_t *correction, uint8_t *table) {
     size_t len = 8 * (blocks + 1);
     struct walk a;
@@ -385,15 +385,15 @@ INLINE void rounds(lanes v[8], lanes w[16], int from, int to) {
 }
 
 /* The first three words of a pad's message are the same in all rows, so their rounds are done once a batch. */
-struct hash { uint32_t batch; lanes state[8]; };
+struct hash { uint64_t batch; lanes state[8]; };
 
-static void message_start(uint32_t batch, lanes w[16]) {
+static void message_start(uint64_t batch, lanes w[16]) {
     w[0] = broadcast(0x50414453); /* "PADS" */
-    w[1] = swap_bytes(broadcast(batch));
-    w[2] = broadcast(0);
+    w[1] = swap_bytes(broadcast((uint32_t)batch));
+    w[2] = swap_bytes(broadcast(batch >> 32));
 }
 
-static struct hash hash_start(uint32_t batch) {
+static struct hash hash_start(uint64_t batch) {
     struct hash h = {.batch = batch};
     lanes w[16];
     message_start(batch, w);
@@ -429,7 +429,7 @@ static void block_pads(const struct hash *h, const uint32_t words[4][64], const 
     }
 }
 
-void fast_receiver_answer(uint32_t batch, unsigned blocks, uint64_t key, const uint8_t *choices, const uint8_t *table,
+void fast_receiver_answer(uint64_t batch, unsigned blocks, uint64_t key, const uint8_t *choices, const uint8_t *table,
                           uint8_t message[1032], uint8_t *pads) {
     static const uint32_t zero[4];
     size_t len = 8 * (blocks + 1);
@@ -446,7 +446,7 @@ void fast_receiver_answer(uint32_t batch, unsigned blocks, uint64_t key, const u
     }
 }
 
-int fast_sender_verify(uint32_t batch, unsigned blocks, uint64_t key, const uint8_t *table, const uint8_t delta[16],
+int fast_sender_verify(uint64_t batch, unsigned blocks, uint64_t key, const uint8_t *table, const uint8_t delta[16],
                        const uint8_t message[1032], uint8_t *pads) {
     static const uint32_t zero[4];
     size_t len = 8 * (blocks + 1);

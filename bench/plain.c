@@ -131,7 +131,7 @@ void plain_sender_setup(unsigned width, const uint8_t delta[16], const uint8_t b
 
 /* A batch, one node at a time and one row at a time. The receiver's leaf numbers are public; delta enters only as masks. */
 
-struct batch { unsigned width; uint32_t number; size_t len; };
+struct batch { unsigned width; uint64_t number; size_t len; };
 
 static void xor_into(uint8_t *restrict to, const uint8_t *restrict from, size_t n) {
     for (size_t j = 0; j < n; j++) to[j] ^= from[j];
@@ -148,7 +148,7 @@ static void make_children(const uint8_t node[32], uint8_t children[64]) {
 
 static void make_stream(const struct batch *a, const uint8_t leaf[32], uint8_t stream[128]) {
     uint8_t nonce[12] = {1};
-    for (int j = 0; j < 4; j++) nonce[4 + j] = a->number >> 8 * j;
+    for (int j = 0; j < 8; j++) nonce[4 + j] = a->number >> 8 * j;
     plain_chacha20_block(leaf, 0, nonce, stream);
     if (a->len > 64) plain_chacha20_block(leaf, 1, nonce, stream + 64);
 }
@@ -169,7 +169,7 @@ static void add_leaves(const struct batch *a, const uint8_t node[32], unsigned l
     add_leaves(a, children + 32, levels - 1, 2 * number + 1, u, columns);
 }
 
-void plain_receiver_start(unsigned width, const uint8_t *roots, uint32_t batch, unsigned blocks, uint8_t *choices, uint8_t *table,
+void plain_receiver_start(unsigned width, const uint8_t *roots, uint64_t batch, unsigned blocks, uint8_t *choices, uint8_t *table,
                           uint8_t *correction) {
     struct batch a = {width, batch, 8 * (blocks + 1)};
     unsigned trees = 128 / width;
@@ -197,7 +197,7 @@ static void add_apart(const struct batch *a, const uint8_t node[32], unsigned le
     add_apart(a, children + 32, levels - 1, 2 * number + 1, d, columns);
 }
 
-void plain_sender_correct(unsigned width, const uint8_t *siblings, const uint8_t delta[16], uint32_t batch, unsigned blocks,
+void plain_sender_correct(unsigned width, const uint8_t *siblings, const uint8_t delta[16], uint64_t batch, unsigned blocks,
                           const uint8_t *correction, uint8_t *table) {
     struct batch a = {width, batch, 8 * (blocks + 1)};
     memset(table, 0, 128 * a.len);
@@ -247,15 +247,14 @@ void block8_rows(unsigned blocks, const uint8_t *table, uint8_t *rows) {
 }
 
 /* What the pad of a row hashes. */
-static void pad_input(uint32_t batch, size_t len, const uint8_t *table, unsigned row, uint8_t m[32]) {
-    memset(m, 0, 16);
+static void pad_input(uint64_t batch, size_t len, const uint8_t *table, unsigned row, uint8_t m[32]) {
     memcpy(m, "PADS", 4);
-    for (int j = 0; j < 4; j++) m[4 + j] = batch >> 8 * j;
+    for (int j = 0; j < 8; j++) m[4 + j] = batch >> 8 * j;
     for (int j = 0; j < 4; j++) m[12 + j] = row >> 8 * j;
     gather_row(len, table, row, m + 16);
 }
 
-void plain_receiver_answer(uint32_t batch, unsigned blocks, uint64_t key, const uint8_t *choices, const uint8_t *table,
+void plain_receiver_answer(uint64_t batch, unsigned blocks, uint64_t key, const uint8_t *choices, const uint8_t *table,
                            uint8_t message[1032], uint8_t *pads) {
     size_t len = 8 * (blocks + 1);
     for (int c = 0; c <= 128; c++) {
@@ -271,7 +270,7 @@ void plain_receiver_answer(uint32_t batch, unsigned blocks, uint64_t key, const 
 
 static uint64_t load_le64(const uint8_t *p) { return load_le(p) | (uint64_t)load_le(p + 4) << 32; }
 
-int plain_sender_verify(uint32_t batch, unsigned blocks, uint64_t key, const uint8_t *table, const uint8_t delta[16],
+int plain_sender_verify(uint64_t batch, unsigned blocks, uint64_t key, const uint8_t *table, const uint8_t delta[16],
                         const uint8_t message[1032], uint8_t *pads) {
     size_t len = 8 * (blocks + 1);
     uint64_t choice = load_le64(message), different = 0;
@@ -310,9 +309,12 @@ struct softspoken_file plain_file_read(const uint8_t *file, size_t len) {
         at += load_le(entry + 8);
     }
     if (at != len) return refused(SOFTSPOKEN_ERR_CONTENTS, len);
-    if (begin[CORRECTION] - begin[HEAD] != 6) return refused(SOFTSPOKEN_ERR_BODY, len);
+    uint64_t head_len = begin[CORRECTION] - begin[HEAD];
+    if (head_len != 10 && head_len != 6) return refused(SOFTSPOKEN_ERR_BODY, len);
     const uint8_t *head = file + begin[HEAD];
-    uint32_t width = head[0], blocks = head[1], batch = load_le(head + 2);
+    uint32_t width = head[0], blocks = head[1];
+    uint64_t batch = load_le(head + 2);
+    if (head_len == 10) batch |= (uint64_t)load_le(head + 6) << 32;
     if (width != 1 && width != 2 && width != 4 && width != 8) return refused(SOFTSPOKEN_ERR_WIDTH, len);
     if (batch == 0) return refused(SOFTSPOKEN_ERR_BATCH, len);
     if (blocks < 1 || blocks > 15) return refused(SOFTSPOKEN_ERR_BLOCKS, len);

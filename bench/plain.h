@@ -11,14 +11,14 @@ void plain_receiver_setup(unsigned width, const uint8_t *roots, const uint8_t ba
 void plain_sender_setup(unsigned width, const uint8_t delta[16], const uint8_t base_pads[4096], const uint8_t message[8192],
                         uint8_t siblings[4096]);
 /* A batch's steps for a width and blocks that are allowed, on ranges of the lengths that paper 01 names. */
-void plain_receiver_start(unsigned width, const uint8_t *roots, uint32_t batch, unsigned blocks, uint8_t *choices, uint8_t *table,
+void plain_receiver_start(unsigned width, const uint8_t *roots, uint64_t batch, unsigned blocks, uint8_t *choices, uint8_t *table,
                           uint8_t *correction);
-void plain_sender_correct(unsigned width, const uint8_t *siblings, const uint8_t delta[16], uint32_t batch, unsigned blocks,
+void plain_sender_correct(unsigned width, const uint8_t *siblings, const uint8_t delta[16], uint64_t batch, unsigned blocks,
                           const uint8_t *correction, uint8_t *table);
-void plain_receiver_answer(uint32_t batch, unsigned blocks, uint64_t key, const uint8_t *choices, const uint8_t *table,
+void plain_receiver_answer(uint64_t batch, unsigned blocks, uint64_t key, const uint8_t *choices, const uint8_t *table,
                            uint8_t message[1032], uint8_t *pads);
 /* Whether the check message is accepted; where it isn't, the pads stay. */
-int plain_sender_verify(uint32_t batch, unsigned blocks, uint64_t key, const uint8_t *table, const uint8_t delta[16],
+int plain_sender_verify(uint64_t batch, unsigned blocks, uint64_t key, const uint8_t *table, const uint8_t delta[16],
                         const uint8_t message[1032], uint8_t *pads);
 /* All rows of a table but those of the spent block, 16 bytes each: bit by bit, and by 8 x 8 bits at once. */
 void plain_rows(unsigned blocks, const uint8_t *table, uint8_t *rows);

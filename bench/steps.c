@@ -29,36 +29,36 @@ static void prepare(uint32_t width, uint32_t blocks) {
 
 /* The proved steps with the parameters of plain.h, each on a record as it stands before that step. */
 
-static void proved_receiver_start(unsigned width, const uint8_t *roots, uint32_t batch, unsigned blocks, uint8_t *choices,
+static void proved_receiver_start(unsigned width, const uint8_t *roots, uint64_t batch, unsigned blocks, uint8_t *choices,
                                   uint8_t *table, uint8_t *correction) {
-    struct softspoken_record r = {width, 0, 0, SOFTSPOKEN_STAGE_READY};
+    struct softspoken_record r = {.width = width, .stage = SOFTSPOKEN_STAGE_READY};
     uint32_t answer = softspoken_receiver_start(&r, roots, SOFTSPOKEN_ROOTS_BYTES(width), batch, blocks, choices,
                                                 SOFTSPOKEN_CHOICES_BYTES(blocks), table, SOFTSPOKEN_TABLE_BYTES(blocks), correction,
                                                 SOFTSPOKEN_CORRECTION_BYTES(width, blocks));
     expect(answer == SOFTSPOKEN_DONE, "receiver start, answer");
 }
 
-static void proved_sender_correct(unsigned width, const uint8_t *siblings, const uint8_t delta[16], uint32_t batch, unsigned blocks,
+static void proved_sender_correct(unsigned width, const uint8_t *siblings, const uint8_t delta[16], uint64_t batch, unsigned blocks,
                                   const uint8_t *correction, uint8_t *table) {
-    struct softspoken_record r = {width, 0, 0, SOFTSPOKEN_STAGE_READY};
+    struct softspoken_record r = {.width = width, .stage = SOFTSPOKEN_STAGE_READY};
     uint32_t answer = softspoken_sender_correct(&r, siblings, SOFTSPOKEN_SIBLINGS_BYTES, delta, SOFTSPOKEN_DELTA_BYTES, batch, blocks,
                                                 correction, SOFTSPOKEN_CORRECTION_BYTES(width, blocks), table,
                                                 SOFTSPOKEN_TABLE_BYTES(blocks));
     expect(answer == SOFTSPOKEN_DONE, "sender correction, answer");
 }
 
-static void proved_receiver_answer(uint32_t batch, unsigned blocks, uint64_t key, const uint8_t *choices, const uint8_t *table,
+static void proved_receiver_answer(uint64_t batch, unsigned blocks, uint64_t key, const uint8_t *choices, const uint8_t *table,
                                    uint8_t message[1032], uint8_t *pads) {
-    struct softspoken_record r = {in->width, batch, blocks, SOFTSPOKEN_STAGE_OPEN};
+    struct softspoken_record r = {.width = in->width, .blocks = blocks, .last = batch, .stage = SOFTSPOKEN_STAGE_OPEN};
     uint32_t answer = softspoken_receiver_answer(&r, key, choices, SOFTSPOKEN_CHOICES_BYTES(blocks), table,
                                                  SOFTSPOKEN_TABLE_BYTES(blocks), message, SOFTSPOKEN_CHECK_MESSAGE_BYTES, pads,
                                                  SOFTSPOKEN_RECEIVER_PADS_BYTES(blocks));
     expect(answer == SOFTSPOKEN_DONE, "receiver answer, answer");
 }
 
-static int proved_sender_verify(uint32_t batch, unsigned blocks, uint64_t key, const uint8_t *table, const uint8_t delta[16],
+static int proved_sender_verify(uint64_t batch, unsigned blocks, uint64_t key, const uint8_t *table, const uint8_t delta[16],
                                 const uint8_t message[1032], uint8_t *pads) {
-    struct softspoken_record r = {in->width, batch, blocks, SOFTSPOKEN_STAGE_OPEN};
+    struct softspoken_record r = {.width = in->width, .blocks = blocks, .last = batch, .stage = SOFTSPOKEN_STAGE_OPEN};
     uint32_t answer = softspoken_sender_verify(&r, key, table, SOFTSPOKEN_TABLE_BYTES(blocks), delta, SOFTSPOKEN_DELTA_BYTES, message,
                                                SOFTSPOKEN_CHECK_MESSAGE_BYTES, pads, SOFTSPOKEN_SENDER_PADS_BYTES(blocks));
     expect(answer == SOFTSPOKEN_DONE || answer == SOFTSPOKEN_ERR_CHECK, "sender verify, answer");
@@ -68,10 +68,10 @@ static int proved_sender_verify(uint32_t batch, unsigned blocks, uint64_t key, c
 enum { PLAIN, FAST, PROVED, KINDS };
 
 static const struct kind {
-    void (*start)(unsigned, const uint8_t *, uint32_t, unsigned, uint8_t *, uint8_t *, uint8_t *);
-    void (*correct)(unsigned, const uint8_t *, const uint8_t *, uint32_t, unsigned, const uint8_t *, uint8_t *);
-    void (*answer)(uint32_t, unsigned, uint64_t, const uint8_t *, const uint8_t *, uint8_t *, uint8_t *);
-    int (*verify)(uint32_t, unsigned, uint64_t, const uint8_t *, const uint8_t *, const uint8_t *, uint8_t *);
+    void (*start)(unsigned, const uint8_t *, uint64_t, unsigned, uint8_t *, uint8_t *, uint8_t *);
+    void (*correct)(unsigned, const uint8_t *, const uint8_t *, uint64_t, unsigned, const uint8_t *, uint8_t *);
+    void (*answer)(uint64_t, unsigned, uint64_t, const uint8_t *, const uint8_t *, uint8_t *, uint8_t *);
+    int (*verify)(uint64_t, unsigned, uint64_t, const uint8_t *, const uint8_t *, const uint8_t *, uint8_t *);
 } kinds[KINDS] = {
     [PLAIN] = {plain_receiver_start, plain_sender_correct, plain_receiver_answer, plain_sender_verify},
     [FAST] = {fast_receiver_start, fast_sender_correct, fast_receiver_answer, fast_sender_verify},
@@ -96,12 +96,12 @@ static const struct { const char *what, *name; double goal; } steps[STEPS] = {
 
 static int kind, step; /* what work does */
 
-/* A whole batch has number 1, whose table the sent message fits. */
+/* A whole batch has number 1, whose table the sent message fits; else both halves of the number depend on i. */
 static void work(unsigned i) {
     const struct kind *f = &kinds[kind];
     struct outputs *o = &outputs[kind];
     int whole = step == RECEIVER_BATCH || step == SENDER_BATCH;
-    uint32_t batch = whole ? 1 : i + 1;
+    uint64_t batch = whole ? 1 : (i + 1) * 0x100000001;
     if (step == START || step == RECEIVER_BATCH) f->start(in->width, in->roots, batch, in->blocks, o->choices, o->v, o->correction);
     if (step == CORRECT || step == SENDER_BATCH) f->correct(in->width, in->siblings, in->delta, batch, in->blocks, in->received, o->w);
     if (step == ANSWER || step == RECEIVER_BATCH)

@@ -88,7 +88,7 @@ static int setup(void) {
 
 /* Each side stores its record, and what the batch still needs, before it sends what a step wrote. So no batch is ever
    run twice. */
-static int batch(uint32_t number, uint8_t damage) {
+static int batch(uint64_t number, uint8_t damage) {
     uint64_t key;
     if (!done("start", softspoken_receiver_start(&receiver.record, RANGE(receiver.roots), number, BLOCKS,
                                                  RANGE(receiver.choices), RANGE(receiver.table),
@@ -107,14 +107,14 @@ static int batch(uint32_t number, uint8_t damage) {
 
 int main(void) {
     int right = setup();
-    for (uint32_t number = 1; number <= 3 && right; number++) {
+    for (uint64_t number = 1; number <= 3 && right; number++) {
         unsigned agree = 0;
         right = batch(number, 0);
         for (size_t j = 0; right && j < SOFTSPOKEN_TRANSFERS(BLOCKS); j++) {
             unsigned choice = softspoken_choice(receiver.choices, j);
             agree += memcmp(receiver.pads + 32 * j, sender.pads + 64 * j + 32 * choice, 32) == 0;
         }
-        printf("batch %u: %u pads of the receiver are the sender's of its choice\n", (unsigned)number, agree);
+        printf("batch %lu: %u pads of the receiver are the sender's of its choice\n", (unsigned long)number, agree);
         right = right && agree == SOFTSPOKEN_TRANSFERS(BLOCKS);
         wipe_batch();
     }

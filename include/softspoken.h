@@ -38,7 +38,7 @@
    which softspoken_file_read looks at.
 
    THE LINE. The library carries nothing. Beside the three messages the host carries batch number, blocks and key. They
-   must be the same on both sides, as must the width. We advise 4 bytes for the batch number, 4 for the blocks and 8 for
+   must be the same on both sides, as must the width. We advise 8 bytes for the batch number, 4 for the blocks and 8 for
    the key, each little-endian. The host must authenticate the line. The check doesn't do that: half of the setup
    message is never used, nor is the correction of a tree whose bits of delta are all 0. What is altered there alone is
    not noticed.
@@ -54,12 +54,12 @@
    correction passes with a chance of 2^-width, as the tree doesn't use it where its bits of delta are all 0.
 
    VALUES. Below, + of bytes is exclusive or, and numbers are little-endian. A node of a tree is 32 bytes, the key of a
-   ChaCha20 block (RFC 8439) whose nonce is a use number, a batch number and 0, of 4 bytes each. Use 0, batch 0,
-   counter 0 gives a node's two children, the left one first. Leaves stand width levels below the root, numbered from 0
-   at the left. A leaf's stream is its blocks of use 1 and the batch's number, counters 0 and 1, cut to the length of a
-   column. The fold of a column under a key starts at 0, and for each 64-bit word of the column in turn is multiplied by
-   the key and has the word added, as polynomials over two elements modulo X^64 + X^4 + X^3 + X + 1. The pad of a row
-   value is SHA-256 of 32 bytes: the letters PADS, the batch number in 8 bytes, the row in 4, and the row value in 16.
+   ChaCha20 block (RFC 8439) whose nonce is a use number in 4 bytes and a batch number in 8. Use 0, batch 0, counter 0
+   gives a node's two children, the left one first. Leaves stand width levels below the root, numbered from 0 at the
+   left. A leaf's stream is its blocks of use 1 and the batch's number, counters 0 and 1, cut to the length of a column.
+   The fold of a column under a key starts at 0, and for each 64-bit word of the column in turn is multiplied by the key
+   and has the word added, as polynomials over two elements modulo X^64 + X^4 + X^3 + X + 1. The pad of a row value is
+   SHA-256 of 32 bytes: the letters PADS, the batch number in 8 bytes, the row in 4, and the row value in 16.
 
    What a function promises below, its answer and what the record and each range hold afterwards, is proved for all
    inputs (docs/THEOREMS.md tells how). What SECRETS says, the bound on the stack and the four inline functions are
@@ -76,9 +76,9 @@ extern "C" {
 
 /* The major number rises when a program that was compiled with an older header no longer works, the minor one when
    there is something new. The string and the number, which is for #if, are made of these three. */
-#define SOFTSPOKEN_VERSION_MAJOR 1
-#define SOFTSPOKEN_VERSION_MINOR 2
-#define SOFTSPOKEN_VERSION_PATCH 1
+#define SOFTSPOKEN_VERSION_MAJOR 2
+#define SOFTSPOKEN_VERSION_MINOR 0
+#define SOFTSPOKEN_VERSION_PATCH 0
 #define SOFTSPOKEN_VERSION_NUMBER \
     (SOFTSPOKEN_VERSION_MAJOR * 10000 + SOFTSPOKEN_VERSION_MINOR * 100 + SOFTSPOKEN_VERSION_PATCH)
 #define SOFTSPOKEN_VERSION \
@@ -118,10 +118,11 @@ extern "C" {
 #define SOFTSPOKEN_RECEIVER_PADS_BYTES(blocks) (SOFTSPOKEN_PAD_BYTES * SOFTSPOKEN_TRANSFERS(blocks))
 #define SOFTSPOKEN_SENDER_PADS_BYTES(blocks) (2 * SOFTSPOKEN_PAD_BYTES * SOFTSPOKEN_TRANSFERS(blocks))
 
-/* A batch on file: its contents of 4 or 5 entries, the two bodies whose sizes are not named above, and the longest file
-   that is read, 25558. A host that reads from disk needs room for one byte more, to see that a file is longer. */
+/* A batch on file: its contents of 4 or 5 entries, the bodies whose sizes are not named above, and the longest file
+   that is read, 25562. A host that reads from disk needs room for one byte more, to see that a file is longer. */
 #define SOFTSPOKEN_FILE_CONTENTS_BYTES(entries) (4 + 12 * (size_t)(entries))
-#define SOFTSPOKEN_FILE_HEAD_BYTES 6
+#define SOFTSPOKEN_FILE_HEAD_BYTES 10
+#define SOFTSPOKEN_FILE_SHORT_HEAD_BYTES 6
 #define SOFTSPOKEN_FILE_KEY_BYTES 8
 #define SOFTSPOKEN_FILE_MAX \
     (SOFTSPOKEN_FILE_CONTENTS_BYTES(5) + SOFTSPOKEN_SETUP_MESSAGE_BYTES + SOFTSPOKEN_FILE_HEAD_BYTES + \
@@ -157,7 +158,9 @@ static inline const char *softspoken_answer_name(uint32_t answer) {
 }
 
 /* ---- The record of a session. Each side has one of its own for each direction of transfers, and lends it to every
-   step. */
+   step. It has no hole before its end. The 4 bytes after stage mean nothing, and a step may leave anything there: store
+   and compare a record field by field. A record that version 1 stored, of 16 bytes, isn't one of this version. To take
+   its session over, set each field by its name: a batch number of version 1 means the same batch. */
 enum softspoken_stage {
     SOFTSPOKEN_STAGE_READY = 0, /* for a new batch */
     SOFTSPOKEN_STAGE_OPEN = 1,  /* a batch is open */
@@ -166,8 +169,8 @@ enum softspoken_stage {
 
 struct softspoken_record {
     uint32_t width;
-    uint32_t last;   /* the last batch number, 0 for none */
     uint32_t blocks; /* of the open batch */
+    uint64_t last;   /* the last batch number, 0 for none */
     uint32_t stage;
 };
 
@@ -237,7 +240,7 @@ static inline unsigned softspoken_choice(const uint8_t *choices, size_t row) {
 
    record     when done: last and blocks are those given, stage open; the width stays.
    roots      in, secret: SOFTSPOKEN_ROOTS_BYTES(width), those of the setup.
-   batch      1 to 4294967295; both sides give the same.
+   batch      1 to 18446744073709551615; both sides give the same.
    blocks     1 to 15; both sides give the same.
    choices    out, secret: SOFTSPOKEN_CHOICES_BYTES(blocks). When done: a choice bit for every row, the sum of the
               streams of all leaves of tree 0. The host can't choose them: they come from the roots.
@@ -246,7 +249,7 @@ static inline unsigned softspoken_choice(const uint8_t *choices, size_t row) {
    correction out, sent: SOFTSPOKEN_CORRECTION_BYTES(width, blocks). When done: for each tree from 1 on, the sum of the
               streams of all its leaves, + choices. */
 uint32_t softspoken_receiver_start(struct softspoken_record *record, const uint8_t *roots, size_t roots_len,
-                                   uint32_t batch, uint32_t blocks, uint8_t *choices, size_t choices_len,
+                                   uint64_t batch, uint32_t blocks, uint8_t *choices, size_t choices_len,
                                    uint8_t *table, size_t table_len, uint8_t *correction, size_t correction_len);
 
 /* The sender's correction of a batch, on a ready record. The width is the record's. A wrong correction isn't noticed
@@ -265,7 +268,7 @@ uint32_t softspoken_receiver_start(struct softspoken_record *record, const uint8
               correction where delta has the bit (tree 0 has none). If both sides are honest, row value j is the
               receiver's row value j, + delta where choice j is 1. */
 uint32_t softspoken_sender_correct(struct softspoken_record *record, const uint8_t *siblings, size_t siblings_len,
-                                   const uint8_t *delta, size_t delta_len, uint32_t batch, uint32_t blocks,
+                                   const uint8_t *delta, size_t delta_len, uint64_t batch, uint32_t blocks,
                                    const uint8_t *correction, size_t correction_len, uint8_t *table, size_t table_len);
 
 /* The receiver's answer to the sender's key, which ends the batch. The record must be open; blocks and batch number are
@@ -311,7 +314,8 @@ uint32_t softspoken_sender_verify(struct softspoken_record *record, uint64_t key
    order, without a gap, up to the file's end. The kinds stand in order, each once; only the setup may be absent. */
 enum softspoken_file_kind {
     SOFTSPOKEN_FILE_SETUP = 1,      /* the setup message: SOFTSPOKEN_SETUP_MESSAGE_BYTES */
-    SOFTSPOKEN_FILE_HEAD = 2,       /* width in 1 byte, blocks in 1, batch number in 4: SOFTSPOKEN_FILE_HEAD_BYTES */
+    SOFTSPOKEN_FILE_HEAD = 2,       /* width in 1 byte, blocks in 1, batch number in 8: SOFTSPOKEN_FILE_HEAD_BYTES; or
+                                       with the number in 4, as in version 1: SOFTSPOKEN_FILE_SHORT_HEAD_BYTES */
     SOFTSPOKEN_FILE_CORRECTION = 3, /* SOFTSPOKEN_CORRECTION_BYTES(width, blocks), by the head */
     SOFTSPOKEN_FILE_KEY = 4,        /* SOFTSPOKEN_FILE_KEY_BYTES */
     SOFTSPOKEN_FILE_CHECK = 5       /* the check message: SOFTSPOKEN_CHECK_MESSAGE_BYTES */
@@ -335,8 +339,8 @@ struct softspoken_file {
 /* Reads a file. It looks at the form alone: it can't tell who wrote the file, or whether the check passed. It writes
    nothing and copies nothing.
    Refusals, in this order: ERR_CONTENTS if the count, a kind, an offset or the file's end breaks the rules above;
-   ERR_BODY if the head isn't SOFTSPOKEN_FILE_HEAD_BYTES long; ERR_WIDTH; ERR_BATCH if the batch number is 0;
-   ERR_BLOCKS; ERR_BODY if another body hasn't the length above.
+   ERR_BODY if the head has neither of its two lengths; ERR_WIDTH; ERR_BATCH if the batch number is 0; ERR_BLOCKS;
+   ERR_BODY if another body hasn't the length above.
 
    file       in, sent: any bytes, of any length.
 

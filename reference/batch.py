@@ -364,7 +364,7 @@ def check():
             assert tree == list(enumerate(setup.tree(setup.node_at(roots, i), width)[-1]))
             d = setup.delta_of(width, delta, i)
             assert sorted(mine[i]) == tree[:d] + tree[d + 1:]
-        check_honest(rng, width, rng.randrange(1, 1 << 32), 1)
-        check_honest(rng, width, rng.randrange(1, 1 << 32), rng.randrange(2, 5))
+        check_honest(rng, width, rng.randrange(1, 1 << 64), 1)
+        check_honest(rng, width, rng.randrange(1, 1 << 64), rng.randrange(2, 5))
         for given in (delta, bytes(len(delta)), b"\xff" * len(delta)):
-            check_damaged(rng, width, rng.randrange(1, 1 << 32), 1, given)
+            check_damaged(rng, width, rng.randrange(1, 1 << 64), 1, given)

@@ -1,4 +1,4 @@
-"""The ChaCha20 block function, from RFC 8439 section 2, and paper 01's nonces."""
+"""The ChaCha20 block function, from RFC 8439 section 2, and the nonces of paper 01 and of paper 02, note 3."""
 
 MASK = 0xFFFFFFFF
 
@@ -61,5 +61,6 @@ def blocks(keys, counter, nonce):
 
 
 def nonce(use, batch):
-    """Paper 01, 'Trees and streams'."""
-    return use.to_bytes(4, "little") + batch.to_bytes(4, "little") + bytes(4)
+    """Paper 01, 'Trees and streams'. Its last 4 bytes, zero there, hold the upper half of the batch number: paper 02, note 3."""
+    lower, upper = batch & MASK, batch >> 32
+    return b"".join(x.to_bytes(4, "little") for x in (use, lower, upper))

@@ -1,4 +1,4 @@
-"""A batch on file, for any bytes: paper 02, note 1.
+"""A batch on file, for any bytes: paper 02, notes 1 and 3.
 
 A file has its contents, then its bodies: of the kinds in order, of which the setup may be absent. The names are those of setup.py.
 """
@@ -16,6 +16,8 @@ CONTENTS, BODY = 7, 8
 
 KINDS = SETUP, HEAD, CORRECTION, KEY, CHECK = range(1, 6)
 
+HEAD_LENGTHS = sizes.head_length(), sizes.short_head_length()
+
 Entry = collections.namedtuple("Entry", "kind offset length")
 Head = collections.namedtuple("Head", "width blocks batch")
 
@@ -26,7 +28,11 @@ Read = collections.namedtuple("Read", "answer head places bodies")
 # Writing, also what isn't to be read: bodies of any length, and contents that say anything.
 
 def head_body(width, blocks, batch):
-    return bytes([width, blocks]) + batch.to_bytes(4, "little")
+    return bytes([width, blocks]) + batch.to_bytes(sizes.head_length() - 2, "little")
+
+
+def short_head_body(width, blocks, batch):
+    return bytes([width, blocks]) + batch.to_bytes(sizes.short_head_length() - 2, "little")
 
 
 def entries_of(kinds, lengths):
@@ -71,7 +77,7 @@ def contents_right(entries, length):
 
 def answer_to(bodies):
     """The answer that the bodies get, which are there by their kinds."""
-    if len(bodies[HEAD]) != sizes.head_length():
+    if len(bodies[HEAD]) not in HEAD_LENGTHS:
         return BODY
     width, blocks, batch = head_in(bodies[HEAD])
     if width not in WIDTHS:
@@ -81,7 +87,7 @@ def answer_to(bodies):
     if not 1 <= blocks <= 15:
         return BLOCKS
     right = body_lengths(width, blocks)
-    return DONE if all(len(body) == right[kind] for kind, body in bodies.items()) else BODY
+    return DONE if all(len(body) == right[kind] for kind, body in bodies.items() if kind != HEAD) else BODY
 
 
 def head_in(body):
@@ -89,7 +95,7 @@ def head_in(body):
 
 
 def body_lengths(width, blocks):
-    """The length that a body has, by its kind."""
+    """The length that a body has, by its kind; of a head the longer one."""
     return {SETUP: sizes.setup_message_length(width), HEAD: sizes.head_length(), CORRECTION: sizes.correction_length(width, blocks),
             KEY: sizes.key_length(width), CHECK: sizes.check_message_length(width)}
 
@@ -135,16 +141,17 @@ def batchprint(data):
 
 
 def check():
-    """What was written is read, at every width and with and without a setup, and each body lies between its place and the next."""
+    """What was written is read, at every width, with either head, and with and without a setup, and each body lies between its place and
+    the next."""
     rng = random.Random(1)
     for width in WIDTHS:
         for blocks in (1, 2, 15):
-            batch = rng.randrange(1, 1 << 32)
             given = {kind: rng.randbytes(length) for kind, length in body_lengths(width, blocks).items()}
-            given[HEAD] = head_body(width, blocks, batch)
-            for setup in (given[SETUP], None):
-                file = write(given[HEAD], setup, given[CORRECTION], given[KEY], given[CHECK])
-                answer, found, places, bodies = read(file)
-                assert (answer, found) == (DONE, (width, blocks, batch))
-                assert bodies == [setup or b"", given[HEAD], given[CORRECTION], given[KEY], given[CHECK]]
-                assert bodies == [file[a:b] for a, b in itertools.pairwise(places)]
+            short, long = rng.randrange(1, 1 << 32), rng.randrange(1, 1 << 64)
+            for batch, head in ((short, short_head_body(width, blocks, short)), (long, head_body(width, blocks, long))):
+                for setup in (given[SETUP], None):
+                    file = write(head, setup, given[CORRECTION], given[KEY], given[CHECK])
+                    answer, found, places, bodies = read(file)
+                    assert (answer, found) == (DONE, (width, blocks, batch))
+                    assert bodies == [setup or b"", head, given[CORRECTION], given[KEY], given[CHECK]]
+                    assert bodies == [file[a:b] for a, b in itertools.pairwise(places)]

@@ -1,5 +1,5 @@
 """The files that the program files reads, and what it must print of them; and those that tests/host reads. Each stands beside the answer
-that paper 02, note 1 names."""
+that paper 02, notes 1 and 3 name."""
 
 import functools
 import hashlib
@@ -10,10 +10,11 @@ import batch
 import file
 import sizes
 from file import BODY, CHECK, CONTENTS, CORRECTION, HEAD, KEY, KINDS, SETUP, Entry
-from records import LIMIT, Records, derived, numbers
+from records import LIMIT, Records, derived, long, numbers
 from setup import DONE, WIDTH, WIDTHS
 
 MOST = (1 << 32) - 1
+LAST = (1 << 64) - 1
 HALF = 1 << 31
 
 # What a record asks for.
@@ -37,10 +38,6 @@ def pieces(data, seed):
         if part != base[at:at + len(part)]:
             differ.append((at, part))
     return differ
-
-
-def long(*given):
-    return b"".join(x.to_bytes(8, "little") for x in given)
 
 
 def told(found):
@@ -82,18 +79,19 @@ class Host:
 class Site:
     """A batch of one width and number of blocks on file, and the files that are nearly that."""
 
-    def __init__(self, v, width, blocks, kinds, number):
+    def __init__(self, v, width, blocks, kinds, number, head_body=file.short_head_body):
         self.v, self.seed = v, v.records
         self.width, self.blocks, self.number = width, blocks, number
-        self.kinds = list(kinds)
+        self.kinds, self.head_body = list(kinds), head_body
+        self.head = self.head_with()
         self.lengths = {kind: file.body_lengths(width, blocks)[kind] for kind in kinds}
+        self.lengths[HEAD] = len(self.head)
         self.entries = self.entries_with({})
         self.end = self.entries[-1].offset + self.entries[-1].length
-        self.head = self.head_with()
 
     def head_with(self, **other):
         """The head, with other values where they are given."""
-        return file.head_body(**{"width": self.width, "blocks": self.blocks, "batch": self.number, **other})
+        return self.head_body(**{"width": self.width, "blocks": self.blocks, "batch": self.number, **other})
 
     def entries_with(self, lengths, kinds=None):
         """Consistent entries, with other lengths by kind where they are given."""
@@ -141,7 +139,7 @@ NAMES = {"setup": SETUP, "head": HEAD, "correction": CORRECTION, "key": KEY, "ch
 
 def taken(v, rng):
     """At every width and number of blocks, and of both layouts with the fewest and the most; there also the least and the highest batch
-    number, one whose lower bytes are 0, and the keys 0 and 1."""
+    number of a short head, one whose lower bytes are 0, and the keys 0 and 1."""
     for width in WIDTHS:
         for blocks in range(1, 16):
             number = rng.randrange(1, 1 << 32)
@@ -154,6 +152,16 @@ def taken(v, rng):
                     site.case(DONE, head=site.head_with(batch=number))
                 for key in (0, 1):
                     site.case(DONE, key=long(key))
+
+
+def long_heads(v, rng):
+    """With a long head: at every width and of both layouts any number, the least and the highest, those about 2^32, of which one has no
+    lower half, and 2^63."""
+    for width, (blocks, layout) in itertools.product(WIDTHS, ((1, KINDS), (15, KINDS[1:]))):
+        site = Site(v, width, blocks, layout, rng.randrange(1 << 32, 1 << 64), file.head_body)
+        site.case(DONE)
+        for number in (1, MOST, MOST + 1, MOST + 2, 1 << 63, LAST):
+            site.case(DONE, head=site.head_with(batch=number))
 
 
 # 7: count, kinds, offsets or file end.
@@ -263,14 +271,28 @@ def contents_first(site):
 # 8 for the head's length, which comes before what it holds.
 
 def head_lengths(site):
-    for head in (site.head, site.head_with(width=3), site.head_with(batch=0, blocks=16)):
-        for length in (0, 5, 7, 10):
+    """Of a short head. With 4 zero bytes more it is a long one, and is judged by what it holds."""
+    for answer, head in ((DONE, site.head), (WIDTH, site.head_with(width=3)), (batch.BATCH, site.head_with(batch=0, blocks=16))):
+        for length in (0, 5, 7):
             site.consistent(BODY, (head + bytes(10))[:length])
+        site.consistent(answer, head + bytes(4))
     for length in (1, 6 + 256):
         site.consistent(BODY, (site.head + bytes(length))[:length])
     site.consistent(BODY, b"", setup=0, correction=0, key=0, check=0)
     site.consistent(BODY, site.head[:5], key=9)
     site.consistent(BODY, site.head_with(width=3) + b"\x00", setup=8191)
+
+
+def long_head_lengths(site):
+    for head in (site.head, site.head_with(width=3), site.head_with(batch=0, blocks=16)):
+        for length in (0, 5, 7, 8, 9, 11):
+            site.consistent(BODY, (head + bytes(10))[:length])
+    for length in (2, 10 + 256, 16):
+        site.consistent(BODY, (site.head + bytes(length))[:length])
+    site.consistent(BODY, site.head[:9], key=9)
+    site.consistent(BODY, site.head_with(width=3) + b"\x00", setup=8191)
+    # its first 6 bytes are a short head
+    site.consistent(DONE, site.head[:2] + (5).to_bytes(4, "little"))
 
 
 # 1, 3 and 4 for what the head holds, in this order.
@@ -336,12 +358,17 @@ def cases():
             site = Site(v, width, blocks, layout, rng.randrange(1, 1 << 32))
             for group in (head_lengths, heads, body_lengths):
                 group(site)
+    long_heads(v, rng)
+    for width, blocks, layout in ((1, 15, KINDS[1:]), (2, 1, KINDS), (4, 15, KINDS), (8, 1, KINDS[1:])):
+        site = Site(v, width, blocks, layout, rng.randrange(1 << 32, 1 << 64), file.head_body)
+        for group in (ends, long_head_lengths, heads, body_lengths):
+            group(site)
     assert len(v.asked) <= LIMIT
     return v
 
 
 def host_cases():
-    """Both layouts at every width, and each refusal; the shortest files but one."""
+    """Both layouts at every width, and each refusal; the shortest files but one. Then both layouts with a long head."""
     rng = random.Random(8)
     v = Host()
     for width, kinds in itertools.product(WIDTHS, (KINDS, KINDS[1:])):
@@ -360,7 +387,7 @@ def host_cases():
     for given in ({"count": 5}, {"count": 6}, site.moved(3, 1), {"entries": passed(site, 2)}):
         site.case(CONTENTS, **given)
     site.consistent(BODY, site.head_with(width=3)[:5])
-    site.consistent(BODY, site.head + bytes(4))
+    site.consistent(DONE, site.head + bytes(4))
     site.consistent(WIDTH, site.head_with(width=3, batch=0))
     site.consistent(batch.BATCH, site.head_with(batch=0, blocks=16))
     for blocks in (0, 16):
@@ -368,4 +395,11 @@ def host_cases():
     for given in ({"correction": site.lengths[CORRECTION] + 1}, {"key": 7}, {"check": 1033}, {"key": 9, "check": 1031}):
         site.consistent(BODY, **given)
     site.case(DONE, key=long(0))
+    Site(v, 8, 1, KINDS, rng.randrange(1 << 32, 1 << 64), file.head_body).case(DONE)
+    site = Site(v, 8, 1, KINDS[1:], LAST, file.head_body)
+    for number in (1, MOST + 1, LAST):
+        site.case(DONE, head=site.head_with(batch=number))
+    site.consistent(BODY, site.head_with(width=3)[:9])
+    site.consistent(WIDTH, site.head_with(width=3, batch=0))
+    site.consistent(batch.BATCH, site.head_with(batch=0, blocks=16))
     return v.out

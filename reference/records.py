@@ -15,7 +15,13 @@ def derived(seed, number, length):
 
 
 def numbers(*given):
+    """4 bytes each."""
     return b"".join(x.to_bytes(4, "little") for x in given)
+
+
+def long(*given):
+    """8 bytes each."""
+    return b"".join(x.to_bytes(8, "little") for x in given)
 
 
 class Records:

@@ -1,5 +1,5 @@
 """The columns, the trees, and the length of every byte range that a step is lent: paper 01, 'Words and layouts' and 'Steps and their
-turning away'; of a batch on file, paper 02, note 1.
+turning away'; of a batch on file, paper 02, notes 1 and 3.
 
 Each is a function of the width, and in a batch of the blocks, also where it is the same for every width, except what stands in a file
 before its width is known. A size stands nowhere else.
@@ -93,7 +93,12 @@ def contents_length(count):
 
 
 def head_length():
-    """The head: 6, of which the width has 1, the blocks 1 and the batch 4."""
+    """The head: 10, of which the width has 1, the blocks 1 and the batch 8."""
+    return 1 + 1 + 8
+
+
+def short_head_length():
+    """The head that paper 02, note 1 has: 6, with 4 bytes for the batch."""
     return 1 + 1 + 4
 
 

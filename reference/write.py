@@ -20,7 +20,7 @@ import published
 import setup
 import sha256
 import sizes
-from records import LIMIT, Records, derived, numbers
+from records import LIMIT, Records, derived, long, numbers
 
 ROOT = pathlib.Path(__file__).resolve().parent.parent
 
@@ -34,6 +34,7 @@ SET, OPEN, BATCH, RECEIVER_START, SENDER_CORRECT, RECEIVER_ANSWER, SENDER_VERIFY
 CORRECTION, MESSAGE, TABLE, DELTA, KEY = range(5)
 
 MOST = (1 << 32) - 1
+LAST = (1 << 64) - 1
 
 
 def lanes(parts):
@@ -46,9 +47,18 @@ def lent(number, ranges):
     return b"".join(x.to_bytes(4, "little") for x in [number] + [len(r) for r in ranges]) + b"".join(ranges)
 
 
+def record_bytes(record):
+    """A record as the programs are given it: the last batch number has 8 bytes, the others have 4."""
+    return numbers(record.width) + long(record.last) + numbers(record.blocks, record.stage)
+
+
 def stepped(answer, record, ranges=()):
-    """The answer's number, the record, and the first 8 bytes of the digest of each range, as they are after a step."""
-    return bytes([answer]).hex() + numbers(*record).hex() + "".join(hashlib.sha256(r).hexdigest()[:16] for r in ranges)
+    """The answer's number, the record, and the first 8 bytes of the digest of each range, as they are after a step. Of the last batch
+    number the lower half stands in the record; the upper one, where it isn't 0, at the end."""
+    upper = record.last >> 32
+    line = bytes([answer]) + numbers(record.width, record.last & MOST, record.blocks, record.stage)
+    line += b"".join(hashlib.sha256(r).digest()[:8] for r in ranges)
+    return (line + (numbers(upper) if upper else b"")).hex()
 
 
 class Vectors(Records):
@@ -63,8 +73,7 @@ class Vectors(Records):
         self.add(FOUR_BLOCKS, payload, lanes([chacha20.block(k, counter, nonce) for k in keys]).hex())
 
     def nonce(self, use, batch):
-        payload = use.to_bytes(4, "little") + batch.to_bytes(4, "little")
-        self.add(NONCE, payload, chacha20.nonce(use, batch).hex())
+        self.add(NONCE, numbers(use) + long(batch), chacha20.nonce(use, batch).hex())
 
     def digest(self, message):
         self.add(DIGEST, message, sha256.digest(message).hex())
@@ -106,34 +115,34 @@ class Batches(Records):
     # Single steps, on a record of their own. Each has a seed of its own, its number, and sends the lengths of the ranges.
 
     def step(self, kind, record, given, lengths, step):
-        """A record of one step on four ranges, of which those that it writes are the last; given are 8 bytes."""
+        """A record of one step on four ranges, of which those that it writes are the last. Given are a batch number and blocks, or a key."""
         ranges = [derived(self.records, i, n) for i, n in enumerate(lengths)]
         answer, after, *out = step(*ranges)
         line = stepped(answer, after, ranges[:4 - len(out)] + out)
-        self.add(kind, numbers(*record) + given + numbers(self.records, *lengths), line)
+        self.add(kind, record_bytes(record) + given + numbers(self.records, *lengths), line)
         return answer, after
 
     def receiver_start(self, record, number, blocks, lengths):
-        return self.step(RECEIVER_START, record, numbers(number, blocks), lengths,
+        return self.step(RECEIVER_START, record, long(number) + numbers(blocks), lengths,
                          lambda *ranges: batch.receiver_start(record, number, blocks, *ranges))
 
     def sender_correct(self, record, number, blocks, lengths):
-        return self.step(SENDER_CORRECT, record, numbers(number, blocks), lengths,
+        return self.step(SENDER_CORRECT, record, long(number) + numbers(blocks), lengths,
                          lambda *ranges: batch.sender_correct(record, number, blocks, *ranges))
 
     def receiver_answer(self, record, key, lengths):
-        return self.step(RECEIVER_ANSWER, record, key.to_bytes(8, "little"), lengths,
+        return self.step(RECEIVER_ANSWER, record, long(key), lengths,
                          lambda *ranges: batch.receiver_answer(record, key, *ranges))
 
     def sender_verify(self, record, key, lengths):
-        return self.step(SENDER_VERIFY, record, key.to_bytes(8, "little"), lengths,
+        return self.step(SENDER_VERIFY, record, long(key), lengths,
                          lambda *ranges: batch.sender_verify(record, key, *ranges))
 
     # The two sessions.
 
     def set(self, receiver, sender):
         self.receiver, self.sender = receiver, sender
-        self.add(SET, numbers(*receiver, *sender))
+        self.add(SET, record_bytes(receiver) + record_bytes(sender))
 
     def open(self, width):
         """The answer, which is that of both."""
@@ -152,7 +161,7 @@ class Batches(Records):
         roots, choices, v, correction = [derived(seed, i, n) for i, n in enumerate(length[:4])]
         w, message = derived(seed, 4, len(v)), derived(seed, 5, sizes.check_message_length(width))
         mine, both = derived(seed, 6, length[4]), derived(seed, 7, length[5])
-        payload = numbers(number, blocks) + key.to_bytes(8, "little") + numbers(seed) + delta + numbers(*length)
+        payload = long(number) + numbers(blocks) + long(key) + numbers(seed) + delta + numbers(*length)
         payload += b"".join(numbers(place) + bytes([what, 0, mask, 0]) for what, place, mask in damage)
         first, self.receiver, choices, v, correction = batch.receiver_start(self.receiver, number, blocks, roots, choices, v, correction)
         lines = [stepped(first, self.receiver, (roots, choices, v, correction))]
@@ -239,8 +248,8 @@ REFUSED = [batch.DONE] * 3 + [batch.CHECK]
 
 
 def session(v, rng, width, blocks_each):
-    """Two sessions on three honest batches, from their opening on. A number that was had is refused on both sides, and so is every one
-    after the last that there is."""
+    """Two sessions on three honest batches, from their opening on. A number that was had is refused on both sides, and so is one below
+    it."""
     seed, delta = v.records, rng.randbytes(sizes.delta_length(width))
     assert v.open(width) == batch.DONE
     for number, blocks in zip((1, 2, MOST), blocks_each):
@@ -250,6 +259,25 @@ def session(v, rng, width, blocks_each):
             refused = v.batch(seed, width, again, blocks, rng.randrange(1 << 64), delta)
             assert refused == [batch.BATCH, batch.STAGE, batch.BATCH, batch.STAGE]
         assert v.receiver == v.sender == ready(width, number)
+
+
+def long_session(v, rng, width):
+    """Two sessions on honest batches about 2^32 and at the end of 64 bits, after the first. Batches whose numbers differ in the upper half
+    alone have other streams: the choices of no two are the same. The last number there is is followed by none."""
+    seed, delta = v.records, rng.randbytes(sizes.delta_length(width))
+    roots, chosen = derived(seed, 0, sizes.roots_length(width)), set()
+    assert v.open(width) == batch.DONE
+    for number in (1, MOST, MOST + 1, MOST + 2, 1 << 63, LAST):
+        assert v.batch(seed, width, number, 1, rng.randrange(1 << 64), delta) == ACCEPTED
+        assert v.receiver == v.sender == ready(width, number)
+        chosen.add(batch.receiver_batch(width, roots, number, sizes.column_length(width, 1))[0])
+        for again in sorted({number, number & MOST}):
+            refused = v.batch(seed, width, again, 1, rng.randrange(1 << 64), delta)
+            assert refused == [batch.BATCH, batch.STAGE, batch.BATCH, batch.STAGE]
+    assert len(chosen) == 6
+    for number in (0, 1, MOST, MOST + 1, 1 << 63, LAST - 1, LAST):
+        assert v.batch(seed, width, number, 1, 27, delta) == [batch.BATCH, batch.STAGE, batch.BATCH, batch.STAGE]
+    assert v.receiver == v.sender == ready(width, LAST)
 
 
 def closed_session(v, rng, width):
@@ -368,6 +396,31 @@ def steps_done(v, rng, width):
             assert v.sender_verify(record, key, batch.verify_lengths(width, blocks)) == closed
 
 
+def long_steps(v, rng, width):
+    """Each step alone, on records whose last number passes 32 bits, closed ones and opened ones too."""
+    for number in (rng.randrange(1 << 32, 1 << 64), MOST + 1, LAST):
+        record = batch.Record(width, number - 1, rng.randrange(1 << 32), batch.READY)
+        assert v.receiver_start(record, number, 1, batch.start_lengths(width, 1))[0] == batch.DONE
+        assert v.sender_correct(record, number, 1, batch.correct_lengths(width, 1))[0] == batch.DONE
+        record = opened(width, number, 1)
+        assert v.receiver_answer(record, 27, batch.answer_lengths(width, 1))[0] == batch.DONE
+        closed = batch.CHECK, record._replace(stage=batch.CLOSED)
+        assert v.sender_verify(record, 27, batch.verify_lengths(width, 1)) == closed
+        assert v.sender_verify(closed[1], 27, batch.verify_lengths(width, 1)) == (batch.STAGE, closed[1])
+        v.set(record, record)
+        assert v.open(3) == batch.WIDTH and v.sender == record
+        assert v.open(width) == batch.DONE and v.sender == ready(width, 0)
+
+
+def long_numbers_refused(call, lengths):
+    """A number that doesn't follow the last, where their lower halves say otherwise, or say nothing."""
+    for last, number in ((MOST + 1, 1), (MOST + 1, MOST), (MOST + 1, MOST + 1), (7 << 32, (6 << 32) + 9), (7 << 32 | 5, 7 << 32 | 5),
+                         (LAST, LAST), (LAST, LAST - 1), (LAST, MOST), (LAST, 0), (1 << 63, (1 << 63) - 1)):
+        for blocks in (1, 16):
+            record = batch.Record(8, last, 0, 0)
+            assert call(record, number, blocks, lengths) == (batch.BATCH, record)
+
+
 def opening_refused(call, lengths_of):
     """What either step that opens a batch refuses. The first refusal in the step's order is given where several hold."""
     right = lengths_of(8, 1)
@@ -440,6 +493,11 @@ def batches():
     opening_refused(v.sender_correct, batch.correct_lengths)
     ending_refused(v.receiver_answer, batch.answer_lengths)
     ending_refused(v.sender_verify, batch.verify_lengths)
+    for width in setup.WIDTHS:
+        long_session(v, rng, width)
+        long_steps(v, rng, width)
+    long_numbers_refused(v.receiver_start, batch.start_lengths(8, 1))
+    long_numbers_refused(v.sender_correct, batch.correct_lengths(8, 1))
     assert len(v.asked) <= LIMIT
     return v
 
@@ -476,19 +534,21 @@ def vectors():
     v.four_folds((1 << 64) - 1, [b"\xff" * (8 * 16)] * 4)
     setups_done(v, rng)
     setups_refused(v)
+    for use, number in ((1, MOST + 1), (1, MOST + 2), (1, 1 << 63), (1, LAST), (MOST, 0x0807060504030201)):
+        v.nonce(use, number)
     assert len(v.asked) <= LIMIT
     return v
 
 
 def session_cases(width):
-    """What tests/host lends to the steps of a session of two batches, and what they must give: the roots, the siblings of an honest
-    setup and delta; of each batch its number, blocks and key, and of each step the answer, the record and what it writes."""
+    """What tests/host lends to the steps of a session of four batches, and what they must give: the roots, the siblings of an honest
+    setup and delta; of each batch its number, key and blocks, and of each step the answer, the record and what it writes."""
     rng = random.Random(1032 + width)
     roots, delta = rng.randbytes(sizes.roots_length(width)), rng.randbytes(sizes.delta_length(width))
     siblings = honest_siblings(width, delta, roots)
     out = roots + siblings + delta
     receiver = sender = batch.open_session(ready(0, 0), width)[1]
-    for number, blocks in ((1, 1), (MOST, 2)):
+    for number, blocks in ((1, 1), (MOST, 2), (MOST + 1, 1), (LAST, 1)):
         key = rng.randrange(1 << 64)
         lengths = batch.start_lengths(width, blocks)
         started = batch.receiver_start(receiver, number, blocks, roots, *map(bytes, lengths[1:]))
@@ -500,10 +560,10 @@ def session_cases(width):
         _, receiver, message, _ = answered
         verified = batch.sender_verify(sender, key, w, delta, message, bytes(sizes.sender_pads_length(width, blocks)))
         sender = verified[1]
-        out += numbers(number, blocks) + key.to_bytes(8, "little")
+        out += long(number, key) + numbers(blocks)
         for answer, after, *written in (started, corrected, answered, verified):
             assert answer == batch.DONE
-            out += numbers(answer, *after) + b"".join(written)
+            out += numbers(answer) + record_bytes(after) + b"".join(written)
     return out
 
 
@@ -586,7 +646,7 @@ def batch_on_file():
     roots, pads = rng.randbytes(sizes.roots_length(width)), rng.randbytes(sizes.receiver_base_pads_length(width))
     _, message = setup.receiver_setup(width, roots, pads, bytes(sizes.setup_message_length(width)))
     choices, v, correction = batch.receiver_batch(width, roots, number, sizes.column_length(width, blocks))
-    head, check = file.head_body(width, blocks, number), batch.check_message(key, choices, v)
+    head, check = file.short_head_body(width, blocks, number), batch.check_message(key, choices, v)
     data = file.write(head, message, correction, key.to_bytes(8, "little"), check)
     assert file.read(data).answer == file.DONE
     return data

@@ -25,9 +25,11 @@ def laid(width, blocks, batch, setup=True, **given):
 def cases():
     """Inputs, with the first line that is printed of each."""
     for width in (1, 2, 4, 8):
-        for blocks, batch in (1, 10), (9, 2**32 - 1), (10, 99):
+        for blocks, batch in (1, 10), (9, 2**32 - 1), (10, 2**64 - 1):
             for setup in (True, False):
                 yield laid(width, blocks, batch, setup), "width %d blocks %d batch %d" % (width, blocks, batch)
+        short = file.short_head_body(width, 10, 99)
+        yield laid(width, 10, 99, head=short), "width %d blocks 10 batch 99" % width
     longest = laid(1, 15, 7)
     yield longest, "width 1 blocks 15 batch 7"
     yield longest + b"\0", "too long"
@@ -35,6 +37,7 @@ def cases():
     yield longest[:-1], "refused 7"
     yield b"", "refused 7"
     yield laid(8, 2, 5, head=bytes([8, 2, 5, 0, 0])), "refused 8"
+    yield laid(8, 2, 5, head=bytes([3, 2, 5, 0, 0, 0, 0, 0])), "refused 8"
     yield laid(8, 2, 5, head=bytes([3, 2, 5, 0, 0, 0])), "refused 1"
     yield laid(8, 2, 0), "refused 3"
     yield laid(8, 2, 5, head=bytes([8, 16, 5, 0, 0, 0])), "refused 4"

@@ -11,16 +11,18 @@ static inline struct lengths lengths_for(uint32_t width, uint32_t blocks) {
     return n;
 }
 
-static inline void put_le32(uint8_t *to, uint32_t number) {
-    for (int i = 0; i < 4; i++) to[i] = (uint8_t)(number >> 8 * i);
+static inline void put_le(uint8_t *to, int bytes, uint64_t number) {
+    for (int i = 0; i < bytes; i++) to[i] = (uint8_t)(number >> 8 * i);
 }
 
-/* Lays contents and head; the other bodies stay as they are. The first kind is the setup, or the head where the setup is absent. Gives the
-   file's length. */
-static inline size_t lay_file(uint8_t *file, uint32_t first, struct lengths n, uint32_t width, uint32_t blocks, uint32_t batch) {
+static inline void put_le32(uint8_t *to, uint32_t number) { put_le(to, 4, number); }
+
+/* Lays contents and head; the other bodies stay as they are. The first kind is the setup, or the head where the setup is absent. Of a head
+   that is shorter than a long one, the first bytes are laid. Gives the file's length. */
+static inline size_t lay_file(uint8_t *file, uint32_t first, struct lengths n, uint32_t width, uint32_t blocks, uint64_t batch) {
     uint8_t head[SOFTSPOKEN_FILE_HEAD_BYTES] = {(uint8_t)width, (uint8_t)blocks};
     uint32_t entries = SOFTSPOKEN_FILE_CHECK + 1 - first, at = SOFTSPOKEN_FILE_CONTENTS_BYTES(entries);
-    put_le32(head + 2, batch);
+    put_le(head + 2, 8, batch);
     put_le32(file, entries);
     for (uint32_t kind = first; kind <= SOFTSPOKEN_FILE_CHECK; kind++) {
         uint8_t *entry = file + SOFTSPOKEN_FILE_CONTENTS_BYTES(kind - first);

@@ -7,15 +7,18 @@
 #define AT(line, fact) HOLDS(line, fact)
 #define EXPECT(fact) AT(__LINE__, fact)
 
-#if SOFTSPOKEN_VERSION_NUMBER < 10200 || SOFTSPOKEN_VERSION_NUMBER / 10000 != SOFTSPOKEN_VERSION_MAJOR
+#if SOFTSPOKEN_VERSION_NUMBER < 20000 || SOFTSPOKEN_VERSION_NUMBER / 10000 != SOFTSPOKEN_VERSION_MAJOR
 #error "the version's number"
 #endif
-EXPECT(sizeof(SOFTSPOKEN_VERSION) >= sizeof("1.2.0"));
+EXPECT(sizeof(SOFTSPOKEN_VERSION) >= sizeof("2.0.0"));
 
-EXPECT(sizeof(struct softspoken_record) == 16);
-EXPECT(offsetof(struct softspoken_record, last) == 4);
-EXPECT(offsetof(struct softspoken_record, blocks) == 8);
-EXPECT(offsetof(struct softspoken_record, stage) == 12);
+/* The record, without a hole before its end; there are 4 bytes after stage that mean nothing. */
+EXPECT(sizeof(struct softspoken_record) == 24);
+EXPECT(offsetof(struct softspoken_record, width) == 0);
+EXPECT(offsetof(struct softspoken_record, blocks) == 4);
+EXPECT(offsetof(struct softspoken_record, last) == 8);
+EXPECT(sizeof(((struct softspoken_record *)0)->last) == 8);
+EXPECT(offsetof(struct softspoken_record, stage) == 16);
 
 /* The numbers of a file that are returned, in the library's order; there are 4 bytes between blocks and batch that mean nothing. */
 EXPECT(sizeof(struct softspoken_file) == 72);
@@ -68,13 +71,14 @@ EXPECT(SOFTSPOKEN_SENDER_BASE_PADS_BYTES == SOFTSPOKEN_PAD_BYTES * SOFTSPOKEN_BA
 EXPECT(SOFTSPOKEN_SETUP_MESSAGE_BYTES == 2 * 32 * SOFTSPOKEN_BASE_TRANSFERS);
 EXPECT(SOFTSPOKEN_SIBLINGS_BYTES == 32 * SOFTSPOKEN_BASE_TRANSFERS);
 
-/* paper 02, note 1 */
+/* paper 02, notes 1 and 3 */
 EXPECT(SOFTSPOKEN_FILE_SETUP == 1 && SOFTSPOKEN_FILE_HEAD == 2 && SOFTSPOKEN_FILE_CORRECTION == 3);
 EXPECT(SOFTSPOKEN_FILE_KEY == 4 && SOFTSPOKEN_FILE_CHECK == 5);
 EXPECT(SOFTSPOKEN_ERR_CONTENTS == 7 && SOFTSPOKEN_ERR_BODY == 8);
 EXPECT(SOFTSPOKEN_FILE_CONTENTS_BYTES(4) == 52);
 EXPECT(SOFTSPOKEN_FILE_CONTENTS_BYTES(5) == 64);
-EXPECT(SOFTSPOKEN_FILE_HEAD_BYTES == 1 + 1 + 4);
+EXPECT(SOFTSPOKEN_FILE_HEAD_BYTES == 1 + 1 + 8);
+EXPECT(SOFTSPOKEN_FILE_SHORT_HEAD_BYTES == 1 + 1 + 4);
 EXPECT(SOFTSPOKEN_FILE_KEY_BYTES == 8);
-EXPECT(SOFTSPOKEN_FILE_MAX == 64 + 8192 + 6 + 16256 + 8 + 1032);
-EXPECT(SOFTSPOKEN_FILE_MAX == 25558);
+EXPECT(SOFTSPOKEN_FILE_MAX == 64 + 8192 + 10 + 16256 + 8 + 1032);
+EXPECT(SOFTSPOKEN_FILE_MAX == 25562);

@@ -1,6 +1,6 @@
 #!/usr/bin/env python3
 """Counts what a reader must believe: the definitions that the steps' promises, the three demands and what is said of the gather's places
-name, directly or through others.
+and of old batches name, directly or through others.
 A line of definitions is one that is no comment, no import and not blank. Prints the files and the sums; tests/docs.py holds
 docs/THEOREMS.md and README to them."""
 
@@ -10,7 +10,7 @@ import re
 ROOT = pathlib.Path(__file__).resolve().parent.parent
 PROMISES = [("setup", "Setup"), ("session", "Steps"), ("answer", "Answer"), ("filereader", "Reading"), ("host", "File")]
 DEMANDS = [("theorems", "Demand1"), ("theorems", "Demand2"), ("theorems", "Demand3")]
-PLACES = [("rows", "Place")]
+NOTES = [("rows", "Place"), ("theorems", "OldBatches")]
 # what `declared` holds is made from the structs and enums of src/
 IMPORT = re.compile(r"^use Rattle·(\w+?)(?:·specs)?\.specs\.(?!declared)(\w+)", re.M)
 
@@ -22,7 +22,7 @@ def definitions(path):
 
 def believed():
     """Each file that is reached, with its lines of definitions."""
-    found, todo = {}, PROMISES + DEMANDS + PLACES
+    found, todo = {}, PROMISES + DEMANDS + NOTES
     while todo:
         crate, name = todo.pop(0)
         path = ROOT / f"crates/{crate}/specs/{name}.antt"

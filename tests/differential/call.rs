@@ -99,7 +99,7 @@ pub struct Call {
     pub step: Step,
     pub record: Record,
     pub width: u32,
-    pub batch: u32,
+    pub batch: u64,
     pub blocks: u32,
     pub key: u64,
     pub ranges: Vec<Vec<u8>>,
@@ -152,13 +152,13 @@ impl Call {
     pub fn told(&self) -> String {
         let Record {
             width,
-            last,
             blocks,
+            last,
             stage,
         } = self.record;
         let lengths: Vec<usize> = self.ranges.iter().map(Vec::len).collect();
         format!(
-            "{}: record {width} {last} {blocks} {stage}, width {}, batch {}, blocks {}, key {:016x}, lengths {lengths:?}",
+            "{}: record {width} {blocks} {last} {stage}, width {}, batch {}, blocks {}, key {:016x}, lengths {lengths:?}",
             self.step.name(),
             self.width,
             self.batch,

@@ -36,6 +36,8 @@ pub struct Comparison {
     counts: [[usize; ANSWERS]; STEPS.len() + 1],
     /// Damaged batches, accepted and refused.
     damaged: [usize; 2],
+    /// Pairs of batches whose numbers differ in the upper half alone.
+    apart: usize,
 }
 
 /// The most differences that are printed.
@@ -92,21 +94,42 @@ impl Comparison {
             differences: vec![],
             counts: [[0; ANSWERS]; FILES + 1],
             damaged: [0; 2],
+            apart: 0,
         }
     }
 
     /// What the twin says, or nothing if all calls have been made.
     pub fn call(&mut self, call: Call) -> Option<Outcome> {
+        self.call_left(&call).map(|(outcome, _)| outcome)
+    }
+
+    /// Two calls of one step, on two batches: no range may be written alike. Nothing if all calls have been made.
+    pub fn call_apart(&mut self, calls: [Call; 2]) -> Option<()> {
+        let (_, first) = self.call_left(&calls[0])?;
+        let (_, second) = self.call_left(&calls[1])?;
+        for at in written(&calls[1], true) {
+            if first[at].content() == second[at].content() {
+                let (call, part, byte) = (self.made - 1, names(&calls[1])[at], 0);
+                let how = format!("{part}: the library wrote the same for batch {}", calls[0].batch);
+                self.differ(Place { call, part, byte }, &|| calls[1].told(), &how);
+            }
+        }
+        self.apart += 1;
+        Some(())
+    }
+
+    /// What the twin says, and what the library left.
+    fn call_left(&mut self, call: &Call) -> Option<(Outcome, Vec<Lent>)> {
         if self.made == self.limit {
             return None;
         }
         let outcome = call.twin();
         let expected = parts(self.made, outcome.answer, outcome.record, &outcome.ranges);
-        let left = library_leaves(self.made, &call);
-        let written = written(&call, outcome.answer == DONE);
-        self.compare(&names(&call), left, &expected, written, &|| call.told());
+        let mut left = library_leaves(self.made, call);
+        let written = written(call, outcome.answer == DONE);
+        self.compare(&names(call), &mut left, &expected, written, &|| call.told());
         self.counts[call.step as usize][outcome.answer as usize] += 1;
-        Some(outcome)
+        Some((outcome, left))
     }
 
     /// Reads a file, on the library and on the twin; nothing if all calls have been made.
@@ -121,26 +144,19 @@ impl Comparison {
             lent.clone(),
         ];
         let given = library::read(&mut lent);
-        let left = vec![Lent::new(&given.answer.to_ne_bytes(), 0), Lent::new(&given.bytes(), 0), lent];
+        let mut left = [Lent::new(&given.answer.to_ne_bytes(), 0), Lent::new(&given.bytes(), 0), lent];
         let told = || format!("file_read: {} bytes, contents {:02x?}", file.len(), &file[..file.len().min(64)]);
-        self.compare(&["answer", "found", "file"], left, &expected, 0..2, &told);
+        self.compare(&["answer", "found", "file"], &mut left, &expected, 0..2, &told);
         self.counts[FILES][found.answer as usize] += 1;
         Some(())
     }
 
     /// Compares what a call left part by part, after a difference was planted in one of those written, if it is this call's turn.
-    fn compare(
-        &mut self,
-        names: &[&'static str],
-        mut left: Vec<Lent>,
-        expected: &[Lent],
-        written: Range<usize>,
-        told: &dyn Fn() -> String,
-    ) {
+    fn compare(&mut self, names: &[&'static str], left: &mut [Lent], expected: &[Lent], written: Range<usize>, told: &dyn Fn() -> String) {
         if let Some(plant) = self.plant.as_mut().filter(|plant| plant.call == self.made) {
-            plant.alter(names, written, &mut left);
+            plant.alter(names, written, left);
         }
-        for ((name, mine), theirs) in names.iter().zip(&left).zip(expected) {
+        for ((name, mine), theirs) in names.iter().zip(left).zip(expected) {
             self.compare_part(name, mine, theirs, told);
         }
         self.made += 1;
@@ -152,19 +168,21 @@ impl Comparison {
             Some(at) => at,
             None => return,
         };
-        let byte = at as isize - library.before as isize;
+        let (call, byte) = (self.made, at as isize - library.before as isize);
+        let how = format!(
+            "{part} of {} bytes, byte {byte}: library {:02x}, twin {:02x}",
+            library.length, library.all[at], twin.all[at]
+        );
+        self.differ(Place { call, part, byte }, told, &how);
+    }
+
+    /// Counts a difference, and prints it if it is one of the first.
+    fn differ(&mut self, place: Place, told: &dyn Fn() -> String, how: &str) {
         if self.differences.len() < PRINTED {
-            println!("difference: seed {}, call {}, {}", self.seed, self.made, told());
-            println!(
-                "  {part} of {} bytes, byte {byte}: library {:02x}, twin {:02x}",
-                library.length, library.all[at], twin.all[at]
-            );
+            println!("difference: seed {}, call {}, {}", self.seed, place.call, told());
+            println!("  {how}");
         }
-        self.differences.push(Place {
-            call: self.made,
-            part,
-            byte,
-        });
+        self.differences.push(place);
     }
 
     /// Counts the verify of a damaged batch.
@@ -188,8 +206,9 @@ impl Comparison {
         let missing = self.missing();
         missing.iter().for_each(|what| println!("never: {what}"));
         println!(
-            "differential: {} calls, seed {}, {} differences",
+            "differential: {} calls, {} pairs of batches apart in the upper half, seed {}, {} differences",
             self.made,
+            self.apart,
             self.seed,
             self.differences.len()
         );
@@ -208,7 +227,7 @@ impl Comparison {
             .collect()
     }
 
-    /// What should have occurred and didn't: an answer, or a verdict on a damaged batch.
+    /// What should have occurred and didn't: an answer, a verdict on a damaged batch, or a pair of batches.
     fn missing(&self) -> Vec<String> {
         let mut out = vec![];
         for (name, answers, counts) in self.functions() {
@@ -217,6 +236,9 @@ impl Comparison {
         }
         let never = ["accepted", "refused"].iter().zip(self.damaged).filter(|(_, count)| *count == 0);
         out.extend(never.map(|(verdict, _)| format!("a damaged batch was {verdict}")));
+        if self.apart == 0 {
+            out.push("a pair of batches apart in the upper half".to_string());
+        }
         out
     }
 }

@@ -46,19 +46,49 @@ pub fn blocks(random: &mut Random) -> u32 {
     }
 }
 
-/// A batch number that the last one matters for.
-pub fn batch_near(random: &mut Random, last: u32) -> u32 {
-    let other = any(random);
-    random.pick(&[0, last, last.wrapping_sub(1), last.wrapping_add(1), MOST, other])
+/// A number of any length: of those of 64 bits alone hardly one would be below 2^32.
+fn any_batch(random: &mut Random) -> u64 {
+    random.number() >> random.below(64)
 }
 
-/// A batch number that is allowed, if there is one.
-pub fn batch_above(random: &mut Random, last: u32) -> u32 {
-    let step = random.pick(&[1, 1, 1, 2, 1000, 1 << 24]);
-    if random.one_in(16) {
-        MOST
-    } else {
-        last.saturating_add(step)
+/// A number on either side of 0, 2^32 or 2^63: below 0 are the highest, so these are the places where a width or a sign would matter.
+fn edge_batch(random: &mut Random) -> u64 {
+    let edge: u64 = random.pick(&[0, 1 << 32, 1 << 63]);
+    edge.wrapping_add(random.below(5) as u64).wrapping_sub(2)
+}
+
+/// Each half goes by the last number's, apart from the other: so the lower one may say what the upper one denies.
+fn halves_near(random: &mut Random, last: u64) -> u64 {
+    let [upper, lower] = [last >> 32, last].map(|half| {
+        let (half, other) = (half as u32, any(random));
+        u64::from(random.pick(&[half, half, half.wrapping_sub(1), half.wrapping_add(1), 0, other]))
+    });
+    upper << 32 | lower
+}
+
+/// A batch number that the last one matters for.
+pub fn batch_near(random: &mut Random, last: u64) -> u64 {
+    let (edge, halves, other) = (edge_batch(random), halves_near(random, last), any_batch(random));
+    random.pick(&[0, last, last.wrapping_sub(1), last.wrapping_add(1), edge, halves, halves, other])
+}
+
+/// A batch number that is allowed, if there is one. Most are the next, so that a session seldom comes to the end of all numbers.
+pub fn batch_above(random: &mut Random, last: u64) -> u64 {
+    let (edge, halves, other) = (edge_batch(random), halves_near(random, last), any_batch(random));
+    let next = last.saturating_add(random.pick(&[1, 1, 1, 2, 1000, 1 << 24, 1 << 32]));
+    let drawn = random.pick(&[next, next, next, next, edge, halves, other]);
+    drawn.max(last.saturating_add(1))
+}
+
+/// Two batch numbers that differ in the upper half alone: a stream that goes by the lower one would come twice.
+pub fn batches_apart(random: &mut Random) -> [u64; 2] {
+    let first = batch_above(random, 0);
+    loop {
+        let by = (any(random) >> random.below(32)).max(1);
+        let other = first ^ u64::from(by) << 32;
+        if other != 0 {
+            return [first, other];
+        }
     }
 }
 
@@ -69,7 +99,7 @@ pub fn key(random: &mut Random) -> u64 {
 
 /// Mostly in the stage that the step needs.
 pub fn record(random: &mut Random, step: Step) -> Record {
-    let (first, second, third) = (any(random), any(random), any(random));
+    let (edge, other, second, third) = (edge_batch(random), any_batch(random), any(random), any(random));
     let needed = if matches!(step, Step::ReceiverAnswer | Step::SenderVerify) {
         OPEN
     } else {
@@ -77,8 +107,8 @@ pub fn record(random: &mut Random, step: Step) -> Record {
     };
     Record {
         width: width(random),
-        last: random.pick(&[0, 1, 2, 1000, MOST, first, first, first]),
         blocks: if random.one_in(8) { second } else { blocks(random) },
+        last: random.pick(&[0, 1, 1000, edge, edge, other, other, other]),
         stage: random.pick(&[needed, needed, needed, needed, needed, needed, 0, 1, 2, 3, third]),
     }
 }

@@ -30,14 +30,24 @@ pub fn play(comparison: &mut Comparison) -> Option<()> {
 /// The bodies of a file that is read, each with its kind.
 fn right(random: &mut Random) -> Vec<(u32, Vec<u8>)> {
     let (width, blocks) = (draw::allowed_width(random), draw::allowed_blocks(random));
-    let (batch, absent) = (draw::batch_above(random, 0), random.one_in(2));
+    let (head, absent) = (right_head(random, width as u8, blocks as u8), random.one_in(2));
     let kinds = KINDS.into_iter().filter(|kind| !absent || *kind != SETUP);
     kinds
         .map(|kind| match kind {
-            HEAD => (kind, file::head_body(width as u8, blocks as u8, batch)),
+            HEAD => (kind, head.clone()),
             _ => (kind, random.bytes(file::body_length(width as usize, blocks as usize, kind))),
         })
         .collect()
+}
+
+/// A head of either length. A long one may hold a small number, too.
+fn right_head(random: &mut Random, width: u8, blocks: u8) -> Vec<u8> {
+    let batch = draw::batch_above(random, 0);
+    if random.one_in(2) {
+        file::head_body(width, blocks, batch)
+    } else {
+        file::short_head_body(width, blocks, (batch as u32).max(1))
+    }
 }
 
 /// The head says something else, or a body has another length; the contents will say so.
@@ -45,12 +55,13 @@ fn misstate(random: &mut Random, bodies: &mut [(u32, Vec<u8>)]) {
     let at = random.below(bodies.len());
     let (width, blocks, other) = (draw::allowed_width(random), draw::allowed_blocks(random), random.below(20001));
     let head = &mut bodies.iter_mut().find(|(kind, _)| *kind == HEAD).unwrap().1;
-    if head.len() == sizes::head_length() {
-        match random.below(6) {
+    if file::head_length_right(head.len()) {
+        match random.below(8) {
             0 => return head[0] = draw::wrong_width(random) as u8,
             1 => return head[1] = draw::wrong_blocks(random) as u8,
-            2 => return head[2..].copy_from_slice(&draw::batch_near(random, 0).to_le_bytes()),
+            2 => return other_batch(random, head),
             3 => (head[0], head[1]) = (width as u8, blocks as u8), // so a body may get the length that it then has
+            4 | 5 => return other_head_length(random, head),
             _ => (),
         }
     }
@@ -58,6 +69,20 @@ fn misstate(random: &mut Random, bodies: &mut [(u32, Vec<u8>)]) {
     let (now, named) = (body.len(), file::body_length(width as usize, blocks as usize, *kind));
     let length = random.pick(&[now.saturating_sub(1), now + 1, 0, 5, 10, named, other]);
     body.resize(length, 0x5a);
+}
+
+/// The head's batch number is another, that may be 0, or 0 in one half.
+fn other_batch(random: &mut Random, head: &mut [u8]) {
+    let batch = draw::batch_near(random, 0).to_le_bytes();
+    let length = head.len() - 2;
+    head[2..].copy_from_slice(&batch[..length]);
+}
+
+/// The head gets either of its lengths, which leaves its number as it was, cut or higher; or one beside them.
+fn other_head_length(random: &mut Random, head: &mut Vec<u8>) {
+    let (short, long) = (sizes::short_head_length(), sizes::head_length());
+    let length = random.pick(&[short, short, long, long, short - 1, short + 1, short + 2, long - 1, long + 1]);
+    head.resize(length, random.pick(&[0, 0x5a]));
 }
 
 /// Alters a file's bytes. Most damage is to the contents, as they were laid for so many entries; a file may have been cut before they end.
@@ -116,10 +141,11 @@ fn swap(random: &mut Random, file: &mut [u8], e: usize, entries: usize) {
     }
 }
 
-/// The bound between a body and the next one is elsewhere, in both entries: by so much that the sums may pass 32 bits, too.
+/// The bound between a body and the next one is elsewhere, in both entries: by what makes a head as long as the other kind of head, or by
+/// so much that the sums may pass 32 bits, too.
 fn shift(random: &mut Random, file: &mut [u8], e: usize, entries: usize) {
-    let any = random.number() as u32;
-    let by = random.pick(&[1, u32::MAX, 1 << 31, 1 << 30, any]);
+    let (any, longer) = (random.number() as u32, (sizes::head_length() - sizes::short_head_length()) as u32);
+    let by = random.pick(&[1, u32::MAX, longer, longer.wrapping_neg(), 1 << 31, 1 << 30, any]);
     let fields = [(3 + 3 * e, by), (2 + 3 * (e + 1), by), (3 + 3 * (e + 1), by.wrapping_neg())];
     for (number, added) in fields.into_iter().filter(|(number, _)| *number <= 3 * entries) {
         if let Some(value) = word(file, number) {

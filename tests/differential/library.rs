@@ -3,19 +3,31 @@
 //! Nothing holds these declarations to include/softspoken.h, except that a wrong one would show as a difference.
 
 use crate::call::{Call, Step};
+use std::mem::size_of;
 
 #[repr(C)]
 #[derive(Clone, Copy, Default, PartialEq)]
 pub struct Record {
     pub width: u32,
-    pub last: u32,
     pub blocks: u32,
+    pub last: u64,
     pub stage: u32,
 }
 
 impl Record {
+    /// The bytes up to the stage's end. Those that follow it mean nothing.
+    const FIELDS: usize = 20;
+
+    /// What stands in each byte after the stage: not 0, so that a step that looks there is seen.
+    const AFTER: u8 = 0x5a;
+
+    /// All that the struct has, as it lies in memory.
     pub fn bytes(self) -> Vec<u8> {
-        [self.width, self.last, self.blocks, self.stage].map(u32::to_ne_bytes).concat()
+        let mut out = [self.width, self.blocks].map(u32::to_ne_bytes).concat();
+        out.extend(self.last.to_ne_bytes());
+        out.extend(self.stage.to_ne_bytes());
+        out.resize(size_of::<Record>(), Record::AFTER);
+        out
     }
 }
 
@@ -56,10 +68,10 @@ extern "C" {
     fn softspoken_sender_setup(width: u32, delta: *const u8, delta_len: usize, base_pads: *const u8, base_pads_len: usize,
         message: *const u8, message_len: usize, siblings: *mut u8, siblings_len: usize) -> u32;
     fn softspoken_open(record: *mut Record, width: u32) -> u32;
-    fn softspoken_receiver_start(record: *mut Record, roots: *const u8, roots_len: usize, batch: u32, blocks: u32,
+    fn softspoken_receiver_start(record: *mut Record, roots: *const u8, roots_len: usize, batch: u64, blocks: u32,
         choices: *mut u8, choices_len: usize, table: *mut u8, table_len: usize, correction: *mut u8, correction_len: usize) -> u32;
     fn softspoken_sender_correct(record: *mut Record, siblings: *const u8, siblings_len: usize, delta: *const u8, delta_len: usize,
-        batch: u32, blocks: u32, correction: *const u8, correction_len: usize, table: *mut u8, table_len: usize) -> u32;
+        batch: u64, blocks: u32, correction: *const u8, correction_len: usize, table: *mut u8, table_len: usize) -> u32;
     fn softspoken_receiver_answer(record: *mut Record, key: u64, choices: *const u8, choices_len: usize,
         table: *const u8, table_len: usize, message: *mut u8, message_len: usize, pads: *mut u8, pads_len: usize) -> u32;
     fn softspoken_sender_verify(record: *mut Record, key: u64, table: *const u8, table_len: usize, delta: *const u8, delta_len: usize,
@@ -91,20 +103,26 @@ impl Lent {
         }
     }
 
+    /// What is between the guards.
+    pub fn content(&self) -> &[u8] {
+        &self.all[self.before..self.before + self.length]
+    }
+
     /// The pointer is to the range, but is allowed the whole allocation: a write to the guards is then a difference and no worse.
     fn parts(&mut self) -> (*mut u8, usize) {
         (self.all.as_mut_ptr().wrapping_add(self.before), self.length)
     }
 }
 
-/// Lends the ranges and a copy of the record, which must be aligned as its words are; the answer.
+/// Lends the ranges and a copy of the record, which must be aligned as its longest field is; the answer. What a step leaves after the
+/// record's stage, but in the record, isn't kept.
 pub fn made(call: &Call, record: &mut Lent, ranges: &mut [Lent]) -> u32 {
     let Call {
         width, batch, blocks, key, ..
     } = *call;
-    assert!(record.length == 16 && record.before % 4 == 0);
-    let mut words: Vec<u32> = record.all.chunks(4).map(|x| u32::from_ne_bytes(x.try_into().unwrap())).collect();
-    let at: *mut Record = words.as_mut_ptr().wrapping_add(record.before / 4).cast();
+    assert!(record.length == size_of::<Record>() && record.before % 8 == 0);
+    let mut words: Vec<u64> = record.all.chunks(8).map(|x| u64::from_ne_bytes(x.try_into().unwrap())).collect();
+    let at: *mut Record = words.as_mut_ptr().wrapping_add(record.before / 8).cast();
     let r: Vec<(*mut u8, usize)> = ranges.iter_mut().map(Lent::parts).collect();
     // The pointers are to live allocations, each its own, with as many bytes as the length says; r[i] panics where a range is missing.
     #[rustfmt::skip]
@@ -121,7 +139,8 @@ pub fn made(call: &Call, record: &mut Lent, ranges: &mut [Lent]) -> u32 {
             Step::SenderVerify => softspoken_sender_verify(at, key, r[0].0, r[0].1, r[1].0, r[1].1, r[2].0, r[2].1, r[3].0, r[3].1),
         }
     };
-    record.all = words.into_iter().flat_map(u32::to_ne_bytes).collect();
+    record.all = words.into_iter().flat_map(u64::to_ne_bytes).collect();
+    record.all[record.before..][Record::FIELDS..record.length].fill(Record::AFTER);
     answer
 }
 

@@ -1,5 +1,6 @@
 //! Plays random calls of the library's eight functions, and compares every answer, record, number and byte with the twin. The calls are
-//! those of the steps; the reads of files come before them.
+//! those of the steps; the reads of files come before them. Two batches whose numbers differ in the upper half alone are also compared
+//! with each other.
 //!
 //! usage: differential [--seed N] [--files N] [--calls N] [--plant]
 //!
@@ -7,6 +8,7 @@
 //! bit of what the library leaves is altered, and the status is 1 if just that is reported, 2 if not. The files depend on the seed alone,
 //! and the calls on the seed and the number of files: fewer are the first ones.
 
+mod apart;
 mod call;
 mod compare;
 mod draw;
@@ -54,6 +56,7 @@ fn play(comparison: &mut Comparison) -> Option<()> {
     match comparison.random.below(1000) {
         0 => singles::sweep(comparison),
         1..=50 => sessions::play(comparison),
+        51..=70 => apart::play(comparison),
         _ => singles::play(comparison),
     }
 }
@@ -71,7 +74,8 @@ fn main() {
     for _ in 0..options.files {
         files::play(&mut comparison);
     }
-    let mut played = singles::sweep(&mut comparison); // so that no run is without one
+    // so that no run is without them
+    let mut played = apart::sweep(&mut comparison).and_then(|_| singles::sweep(&mut comparison));
     while played.is_some() {
         played = play(&mut comparison);
     }

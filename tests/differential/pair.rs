@@ -18,7 +18,7 @@ pub struct Side {
 pub struct Pair {
     pub width: u32,
     /// Of the batch that the receiver started last, or that comes next.
-    pub batch: u32,
+    pub batch: u64,
     pub blocks: u32,
     pub key: u64,
     pub sides: [Side; 2],

@@ -52,6 +52,19 @@ impl Stored {
         u32::from_le_bytes(self.bytes(4).try_into().unwrap())
     }
 
+    fn long(&mut self) -> u64 {
+        u64::from_le_bytes(self.bytes(8).try_into().unwrap())
+    }
+
+    fn record(&mut self) -> Record {
+        Record {
+            width: self.number(),
+            last: self.long(),
+            blocks: self.number(),
+            stage: self.number(),
+        }
+    }
+
     fn ended(&self) -> bool {
         self.at == self.data.len()
     }
@@ -100,15 +113,14 @@ fn session(width: u32, mut file: Stored) {
     let [roots, siblings, delta] = lengths.map(|n| file.bytes(n));
     pair.sides[RECEIVER].held.insert("roots", roots);
     pair.sides[SENDER].held.extend([("siblings", siblings), ("delta", delta)]);
-    for _ in 0..2 {
-        (pair.batch, pair.blocks) = (file.number(), file.number());
-        pair.key = u64::from_le_bytes(file.bytes(8).try_into().unwrap());
+    for _ in 0..4 {
+        (pair.batch, pair.key, pair.blocks) = (file.long(), file.long(), file.number());
         for step in BATCH {
             let call = pair.call(&mut Random::new(0), side_of(step), step);
             let outcome = call.twin();
             let mut expected = call.ranges.clone();
             assert!(outcome.answer == file.number(), "{}: answer", call.told());
-            assert!(outcome.record.bytes() == file.bytes(16), "{}: record", call.told());
+            assert!(outcome.record == file.record(), "{}: record", call.told());
             expected[step.read().len()..]
                 .iter_mut()
                 .for_each(|range| *range = file.bytes(range.len()));

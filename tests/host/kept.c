@@ -42,12 +42,17 @@ static void shows(size_t len, const char *text) {
 
 static void done(void) {
     const uint32_t most = SOFTSPOKEN_BLOCKS_MAX;
-    shows(lay_file(laid, SOFTSPOKEN_FILE_HEAD, lengths_for(8, 1), 8, 1, 7),
+    struct lengths n = lengths_for(8, 1);
+    shows(lay_file(laid, SOFTSPOKEN_FILE_HEAD, n, 8, 1, 7),
           "width 8, blocks 1, batch 7\n"
+          "kind 1: 0 bytes\nkind 2: 10 bytes\nkind 3: 240 bytes\nkind 4: 8 bytes\nkind 5: 1032 bytes\n");
+    n.of[SOFTSPOKEN_FILE_HEAD] = SOFTSPOKEN_FILE_SHORT_HEAD_BYTES;
+    shows(lay_file(laid, SOFTSPOKEN_FILE_HEAD, n, 8, 1, UINT32_MAX),
+          "width 8, blocks 1, batch 4294967295\n"
           "kind 1: 0 bytes\nkind 2: 6 bytes\nkind 3: 240 bytes\nkind 4: 8 bytes\nkind 5: 1032 bytes\n");
-    shows(lay_file(laid, SOFTSPOKEN_FILE_SETUP, lengths_for(1, most), 1, most, UINT32_MAX),
-          "width 1, blocks 15, batch 4294967295\n"
-          "kind 1: 8192 bytes\nkind 2: 6 bytes\nkind 3: 16256 bytes\nkind 4: 8 bytes\nkind 5: 1032 bytes\n");
+    shows(lay_file(laid, SOFTSPOKEN_FILE_SETUP, lengths_for(1, most), 1, most, UINT64_MAX),
+          "width 1, blocks 15, batch 18446744073709551615\n"
+          "kind 1: 8192 bytes\nkind 2: 10 bytes\nkind 3: 16256 bytes\nkind 4: 8 bytes\nkind 5: 1032 bytes\n");
     shows(SOFTSPOKEN_FILE_MAX + 1, "refused: SOFTSPOKEN_ERR_CONTENTS\n");
     shows(SOFTSPOKEN_FILE_MAX + 2, "refused: SOFTSPOKEN_ERR_CONTENTS\n");
 }

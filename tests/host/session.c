@@ -16,7 +16,7 @@ struct ranges {
 };
 
 /* A call, beside the record: what is given, and the lengths of the step's ranges in the order of its parameters. */
-struct call { enum step step; uint32_t number, blocks; uint64_t key; size_t n[4]; };
+struct call { enum step step; uint64_t number, key; uint32_t blocks; size_t n[4]; };
 
 static const char *const names[] = {"receiver start", "sender correct", "receiver answer", "sender verify"};
 static struct ranges lent;
@@ -28,13 +28,13 @@ static void expect(int right, const char *step, const char *what) {
     wrong++;
 }
 
-static struct call call_of(enum step step, uint32_t number, uint32_t blocks, uint64_t key) {
+static struct call call_of(enum step step, uint64_t number, uint32_t blocks, uint64_t key) {
     const size_t len = 8 * (blocks + 1), table = 128 * len, correction = (TREES - 1) * len;
     const size_t n[4][4] = {{32 * TREES, len, table, correction},
                             {4096, 16, correction, table},
                             {len, table, 1032, 2048 * blocks},
                             {table, 16, 1032, 4096 * blocks}};
-    struct call c = {step, number, blocks, key, {0}};
+    struct call c = {step, number, key, blocks, {0}};
     memcpy(c.n, n[step], sizeof c.n);
     return c;
 }
@@ -55,11 +55,21 @@ static uint32_t made(const struct call *c, struct softspoken_record *r) {
     }
 }
 
+static struct softspoken_record record_of(uint32_t width, uint64_t last, uint32_t blocks, uint32_t stage) {
+    struct softspoken_record r = {.width = width, .blocks = blocks, .last = last, .stage = stage};
+    return r;
+}
+
+/* Field by field: the record's last bytes mean nothing. */
+static int same(const struct softspoken_record *a, const struct softspoken_record *b) {
+    return a->width == b->width && a->blocks == b->blocks && a->last == b->last && a->stage == b->stage;
+}
+
 /* Makes a call and holds the answer, the record and all ranges to what must stand there afterwards. */
 static void compare(const struct call *c, struct softspoken_record *r, uint32_t answer, struct softspoken_record after,
                     const struct ranges *ranges) {
     expect(made(c, r) == answer, names[c->step], "another answer");
-    expect(!memcmp(r, &after, sizeof after), names[c->step], "another record");
+    expect(same(r, &after), names[c->step], "another record");
     expect(!memcmp(&lent, ranges, sizeof lent), names[c->step], "other bytes");
 }
 
@@ -88,6 +98,8 @@ static void refusals(struct call c, struct softspoken_record r) {
     if (opens) {
         c.number = r.last;
         refused(c, r, SOFTSPOKEN_ERR_BATCH);
+        c.number = (uint32_t)r.last; /* a lower half doesn't count by itself */
+        refused(c, r, SOFTSPOKEN_ERR_BATCH);
     }
     r.stage = opens ? SOFTSPOKEN_STAGE_OPEN : SOFTSPOKEN_STAGE_READY;
     refused(c, r, SOFTSPOKEN_ERR_STAGE);
@@ -101,16 +113,34 @@ static void refusals(struct call c, struct softspoken_record r) {
 static void closes(const struct call *verify, struct softspoken_record r) {
     lent.message[8] ^= 1;
     const struct ranges before = lent;
-    const struct softspoken_record closed = {r.width, r.last, r.blocks, SOFTSPOKEN_STAGE_CLOSED};
-    const struct softspoken_record new = {WIDTH, 0, 0, SOFTSPOKEN_STAGE_READY};
+    const struct softspoken_record closed = record_of(r.width, r.last, r.blocks, SOFTSPOKEN_STAGE_CLOSED);
+    const struct softspoken_record new = record_of(WIDTH, 0, 0, SOFTSPOKEN_STAGE_READY);
     compare(verify, &r, SOFTSPOKEN_ERR_CHECK, closed, &before);
     for (enum step step = START; step <= VERIFY; step++) refused(call_of(step, 7, verify->blocks, verify->key), r, SOFTSPOKEN_ERR_STAGE);
-    expect(softspoken_open(&r, WIDTH) == SOFTSPOKEN_DONE && !memcmp(&r, &new, sizeof r), "open", "a closed session isn't opened anew");
+    expect(softspoken_open(&r, WIDTH) == SOFTSPOKEN_DONE && same(&r, &new), "open", "a closed session isn't opened anew");
     lent.message[8] ^= 1;
 }
 
 static void take(FILE *f, void *p, size_t n) {
     expect(fread(p, 1, n, f) == n, "stored", "the file is too short");
+}
+
+static uint64_t take_number(FILE *f, size_t bytes) {
+    uint8_t s[8] = {0};
+    uint64_t number = 0;
+    take(f, s, bytes);
+    for (int i = 7; i >= 0; i--) number = number << 8 | s[i];
+    return number;
+}
+
+/* Width in 4 bytes, last in 8, blocks and stage in 4 each. */
+static struct softspoken_record take_record(FILE *f) {
+    struct softspoken_record r;
+    r.width = (uint32_t)take_number(f, 4);
+    r.last = take_number(f, 8);
+    r.blocks = (uint32_t)take_number(f, 4);
+    r.stage = (uint32_t)take_number(f, 4);
+    return r;
 }
 
 /* The ranges that a step writes are its last ones: as the file has them. */
@@ -125,30 +155,31 @@ static void take_written(FILE *f, const struct call *c, struct ranges *a) {
 /* The two steps that open the batch, then the two that end it; records are the receiver's and the sender's. */
 static void batch(FILE *f, struct softspoken_record records[2]) {
     static struct ranges after;
-    struct { uint32_t number, blocks; uint64_t key; } given;
-    take(f, &given, sizeof given);
-    if (given.blocks > MOST_BLOCKS) given.blocks = MOST_BLOCKS;
+    const uint64_t number = take_number(f, 8), key = take_number(f, 8);
+    uint32_t blocks = (uint32_t)take_number(f, 4);
+    if (blocks > MOST_BLOCKS) blocks = MOST_BLOCKS;
     for (enum step step = START; step <= VERIFY; step++) {
-        const struct call c = call_of(step, given.number, given.blocks, given.key);
-        struct { uint32_t answer; struct softspoken_record record; } stored;
+        const struct call c = call_of(step, number, blocks, key);
         refusals(c, records[step % 2]);
         if (step == VERIFY) closes(&c, records[1]);
         after = lent;
-        take(f, &stored, sizeof stored);
+        const uint32_t answer = (uint32_t)take_number(f, 4);
+        const struct softspoken_record record = take_record(f);
         take_written(f, &c, &after);
-        compare(&c, &records[step % 2], stored.answer, stored.record, &after);
+        compare(&c, &records[step % 2], answer, record, &after);
     }
 }
 
 /* Opens a session on a record that holds other numbers; other widths are refused and leave it. */
 static void opens(struct softspoken_record *r) {
     const uint32_t not_allowed[] = {0, 3, 5, 16, UINT32_MAX};
-    const struct softspoken_record any = {3, 5, 77, SOFTSPOKEN_STAGE_CLOSED}, new = {WIDTH, 0, 0, SOFTSPOKEN_STAGE_READY};
+    const struct softspoken_record any = record_of(3, UINT64_MAX - 5, 77, SOFTSPOKEN_STAGE_CLOSED);
+    const struct softspoken_record new = record_of(WIDTH, 0, 0, SOFTSPOKEN_STAGE_READY);
     *r = any;
     for (int i = 0; i < 5; i++)
-        expect(softspoken_open(r, not_allowed[i]) == SOFTSPOKEN_ERR_WIDTH && !memcmp(r, &any, sizeof any), "open",
+        expect(softspoken_open(r, not_allowed[i]) == SOFTSPOKEN_ERR_WIDTH && same(r, &any), "open",
                "a width is not refused");
-    expect(softspoken_open(r, WIDTH) == SOFTSPOKEN_DONE && !memcmp(r, &new, sizeof new), "open", "another record");
+    expect(softspoken_open(r, WIDTH) == SOFTSPOKEN_DONE && same(r, &new), "open", "another record");
 }
 
 int main(int argc, char **argv) {
@@ -161,11 +192,14 @@ int main(int argc, char **argv) {
     take(f, lent.delta, 16);
     opens(&records[0]);
     opens(&records[1]);
-    batch(f, records);
-    batch(f, records);
-    /* the second batch has the highest number, and none is above it */
-    refused(call_of(START, UINT32_MAX, 1, 0), records[0], SOFTSPOKEN_ERR_BATCH);
-    refused(call_of(CORRECT, UINT32_MAX, 1, 0), records[1], SOFTSPOKEN_ERR_BATCH);
+    /* the second has number 2^32 - 1, and the third the next; the fourth the highest, and none is above it */
+    for (int n = 0; n < 4; n++) batch(f, records);
+    expect(records[0].last == UINT64_MAX && records[1].last == UINT64_MAX, "stored", "the last batch has another number");
+    const uint64_t numbers[] = {0, 1, UINT32_MAX, (uint64_t)UINT32_MAX + 1, UINT64_MAX - 1, UINT64_MAX};
+    for (int i = 0; i < 6; i++) {
+        refused(call_of(START, numbers[i], 1, 0), records[0], SOFTSPOKEN_ERR_BATCH);
+        refused(call_of(CORRECT, numbers[i], 1, 0), records[1], SOFTSPOKEN_ERR_BATCH);
+    }
     expect(fgetc(f) == EOF, "stored", "the file is too long");
     fclose(f);
     printf("host: %u calls of the steps of a session of width %u, %u differences\n", calls, (unsigned)WIDTH, wrong);

@@ -26,19 +26,19 @@ fn length_at(p: &[u8], at: usize) -> usize
     n
 }
 
-// The record of a session at a place: width, last batch number, blocks and stage, 4 bytes each.
+// The record of a session at a place: the last batch number has 8 bytes; width before it, and blocks and stage after it, have 4 each.
 fn record_at(p: &[u8], at: usize) -> rules::Record
-    requires { ⌜ at + 16 ≤ length (now p) ⌝ }
+    requires { ⌜ at + 20 ≤ length (now p) ⌝ }
 {
     rules::Record {
         width: words::load32(p, at),
-        last: words::load32(p, at + 4),
-        blocks: words::load32(p, at + 8),
-        stage: words::load32(p, at + 12),
+        last: words::load64(p, at + 4),
+        blocks: words::load32(p, at + 12),
+        stage: words::load32(p, at + 16),
     }
 }
 
-// The answer's number and the record after a step. The `ensures` gives their length.
+// The answer's number and the record after a step, of whose last batch number this is the lower half. The `ensures` gives their length.
 fn outcome(step: session::Stepped) -> [u8; 17]
     ensures { λ r. ⌜ 17 ≡ length r ⌝ }
 {
@@ -47,10 +47,21 @@ fn outcome(step: session::Stepped) -> [u8; 17]
     let mut line = [0u8; 17];
     line[0] = (answer::number_of(result) % 256) as u8;
     words::store32(&mut line, 1, record.width);
-    words::store32(&mut line, 5, record.last);
+    words::store32(&mut line, 5, (record.last % 0x1_0000_0000) as u32);
     words::store32(&mut line, 9, record.blocks);
     words::store32(&mut line, 13, record.stage);
     line
+}
+
+// A line of a step. Where the last batch number passes 32 bits, its upper half stands at the end.
+fn print_line(line: &[u8], step: session::Stepped) {
+    cases::print_digits(line);
+    let record = step.record;
+    if 0xffff_ffff < record.last {
+        let upper = (record.last / 0x1_0000_0000) as u32;
+        cases::print_digits(&words::bytes32(upper));
+    }
+    cases::print(b"");
 }
 
 // The first 8 bytes of a range's digest.
@@ -66,19 +77,19 @@ fn print_step(step: session::Stepped, a: &[u8], b: &[u8], c: &[u8], d: &[u8]) {
     words::store64(&mut line, 25, digest_head(b));
     words::store64(&mut line, 33, digest_head(c));
     words::store64(&mut line, 41, digest_head(d));
-    cases::print(&line);
+    print_line(&line, step);
 }
 
 // A session's record, a batch number, blocks, a seed and the lengths of roots, choices, table and correction: the step.
 fn receiver_start(p: &[u8]) {
-    if p.len() != 44 {
+    if p.len() != 52 {
         return;
     }
-    let seed = words::load32(p, 24);
-    let roots_len = length_at(p, 28);
-    let choices_len = length_at(p, 32);
-    let table_len = length_at(p, 36);
-    let correction_len = length_at(p, 40);
+    let seed = words::load32(p, 32);
+    let roots_len = length_at(p, 36);
+    let choices_len = length_at(p, 40);
+    let table_len = length_at(p, 44);
+    let correction_len = length_at(p, 48);
     let all_roots = cases::derived(seed, 0);
     let mut all_choices = cases::derived(seed, 1);
     let mut all_table = cases::derived(seed, 2);
@@ -88,22 +99,22 @@ fn receiver_start(p: &[u8]) {
     let table = &mut all_table[0..table_len];
     let correction = &mut all_correction[0..correction_len];
     let record = record_at(p, 0);
-    let batch = words::load32(p, 16);
-    let blocks = words::load32(p, 20);
+    let batch = words::load64(p, 20);
+    let blocks = words::load32(p, 28);
     let step = session::receiver_start(record, roots, batch, blocks, choices, table, correction);
     print_step(step, roots, choices, table, correction);
 }
 
 // A session's record, a batch number, blocks, a seed and the lengths of siblings, delta, correction and table: the step.
 fn sender_correct(p: &[u8]) {
-    if p.len() != 44 {
+    if p.len() != 52 {
         return;
     }
-    let seed = words::load32(p, 24);
-    let siblings_len = length_at(p, 28);
-    let delta_len = length_at(p, 32);
-    let correction_len = length_at(p, 36);
-    let table_len = length_at(p, 40);
+    let seed = words::load32(p, 32);
+    let siblings_len = length_at(p, 36);
+    let delta_len = length_at(p, 40);
+    let correction_len = length_at(p, 44);
+    let table_len = length_at(p, 48);
     let all_siblings = cases::derived(seed, 0);
     let all_delta = cases::derived(seed, 1);
     let all_correction = cases::derived(seed, 2);
@@ -113,22 +124,22 @@ fn sender_correct(p: &[u8]) {
     let correction = &all_correction[0..correction_len];
     let table = &mut all_table[0..table_len];
     let record = record_at(p, 0);
-    let batch = words::load32(p, 16);
-    let blocks = words::load32(p, 20);
+    let batch = words::load64(p, 20);
+    let blocks = words::load32(p, 28);
     let step = session::sender_correct(record, siblings, delta, batch, blocks, correction, table);
     print_step(step, siblings, delta, correction, table);
 }
 
 // A session's record, a key, a seed and the lengths of choices, table, message and pads: the step.
 fn receiver_answer(p: &[u8]) {
-    if p.len() != 44 {
+    if p.len() != 48 {
         return;
     }
-    let seed = words::load32(p, 24);
-    let choices_len = length_at(p, 28);
-    let table_len = length_at(p, 32);
-    let message_len = length_at(p, 36);
-    let pads_len = length_at(p, 40);
+    let seed = words::load32(p, 28);
+    let choices_len = length_at(p, 32);
+    let table_len = length_at(p, 36);
+    let message_len = length_at(p, 40);
+    let pads_len = length_at(p, 44);
     let all_choices = cases::derived(seed, 0);
     let all_table = cases::derived(seed, 1);
     let mut all_message = cases::derived(seed, 2);
@@ -138,21 +149,21 @@ fn receiver_answer(p: &[u8]) {
     let message = &mut all_message[0..message_len];
     let pads = &mut all_pads[0..pads_len];
     let record = record_at(p, 0);
-    let key = words::load64(p, 16);
+    let key = words::load64(p, 20);
     let step = session::receiver_answer(record, key, choices, table, message, pads);
     print_step(step, choices, table, message, pads);
 }
 
 // A session's record, a key, a seed and the lengths of table, delta, message and pads: the step.
 fn sender_verify(p: &[u8]) {
-    if p.len() != 44 {
+    if p.len() != 48 {
         return;
     }
-    let seed = words::load32(p, 24);
-    let table_len = length_at(p, 28);
-    let delta_len = length_at(p, 32);
-    let message_len = length_at(p, 36);
-    let pads_len = length_at(p, 40);
+    let seed = words::load32(p, 28);
+    let table_len = length_at(p, 32);
+    let delta_len = length_at(p, 36);
+    let message_len = length_at(p, 40);
+    let pads_len = length_at(p, 44);
     let all_table = cases::derived(seed, 0);
     let all_delta = cases::derived(seed, 1);
     let all_message = cases::derived(seed, 2);
@@ -162,7 +173,7 @@ fn sender_verify(p: &[u8]) {
     let message = &all_message[0..message_len];
     let pads = &mut all_pads[0..pads_len];
     let record = record_at(p, 0);
-    let key = words::load64(p, 16);
+    let key = words::load64(p, 20);
     let step = session::sender_verify(record, key, table, delta, message, pads);
     print_step(step, table, delta, message, pads);
 }
@@ -194,21 +205,21 @@ fn batch_receiver(
     correction: &mut [u8],
     message: &mut [u8],
 ) -> rules::Record
-    requires { ⌜ 60 ≤ length (now p) ⌝ }
+    requires { ⌜ 64 ≤ length (now p) ⌝ }
 {
-    let key = words::load64(p, 8);
-    let seed = words::load32(p, 16);
-    let choices_len = length_at(p, 40);
-    let table_len = length_at(p, 44);
-    let pads_len = length_at(p, 52);
+    let key = words::load64(p, 12);
+    let seed = words::load32(p, 20);
+    let choices_len = length_at(p, 44);
+    let table_len = length_at(p, 48);
+    let pads_len = length_at(p, 56);
     let mut all_choices = cases::derived(seed, 1);
     let mut all_table = cases::derived(seed, 2);
     let mut all_pads = cases::derived(seed, 6);
     let choices = &mut all_choices[0..choices_len];
     let table = &mut all_table[0..table_len];
     let pads = &mut all_pads[0..pads_len];
-    let batch = words::load32(p, 0);
-    let blocks = words::load32(p, 4);
+    let batch = words::load64(p, 0);
+    let blocks = words::load32(p, 8);
     let start = session::receiver_start(record, roots, batch, blocks, choices, table, correction);
     print_step(start, roots, choices, table, correction);
     let open = start.record;
@@ -238,12 +249,12 @@ fn batch_correct(
     correction: &mut [u8],
     table: &mut [u8],
 ) -> rules::Record
-    requires { ⌜ 60 ≤ length (now p) ⌝ }
+    requires { ⌜ 64 ≤ length (now p) ⌝ }
 {
-    let batch = words::load32(p, 0);
-    let blocks = words::load32(p, 4);
-    damage(&p[60..], 0, correction);
-    let delta = &p[20..36];
+    let batch = words::load64(p, 0);
+    let blocks = words::load32(p, 8);
+    damage(&p[64..], 0, correction);
+    let delta = &p[24..40];
     let siblings = siblings_of(record.width, roots, delta);
     let step = session::sender_correct(record, &siblings, delta, batch, blocks, correction, table);
     print_step(step, &siblings, delta, correction, table);
@@ -252,32 +263,32 @@ fn batch_correct(
 
 // Delta and the key at the verify. The `ensures` gives delta's length.
 fn verify_delta(p: &[u8]) -> [u8; 16]
-    requires { ⌜ 60 ≤ length (now p) ⌝ }
+    requires { ⌜ 64 ≤ length (now p) ⌝ }
     ensures { λ r. ⌜ 16 ≡ length r ⌝ }
 {
     let mut delta = [0u8; 16];
-    words::copy_part(&mut delta, 0, &p[20..36]);
-    damage(&p[60..], 3, &mut delta);
+    words::copy_part(&mut delta, 0, &p[24..40]);
+    damage(&p[64..], 3, &mut delta);
     delta
 }
 
 fn verify_key(p: &[u8]) -> u64
-    requires { ⌜ 60 ≤ length (now p) ⌝ }
+    requires { ⌜ 64 ≤ length (now p) ⌝ }
 {
     let mut key = [0u8; 8];
-    words::copy_part(&mut key, 0, &p[8..16]);
-    damage(&p[60..], 4, &mut key);
+    words::copy_part(&mut key, 0, &p[12..20]);
+    damage(&p[64..], 4, &mut key);
     words::load64(&key, 0)
 }
 
 // The sender's verify in a whole batch.
 fn batch_verify(record: rules::Record, p: &[u8], table: &[u8], message: &[u8]) -> rules::Record
-    requires { ⌜ 60 ≤ length (now p) ⌝ }
+    requires { ⌜ 64 ≤ length (now p) ⌝ }
 {
     let delta = verify_delta(p);
     let key = verify_key(p);
-    let pads_len = length_at(p, 56);
-    let mut all_pads = cases::derived(words::load32(p, 16), 7);
+    let pads_len = length_at(p, 60);
+    let mut all_pads = cases::derived(words::load32(p, 20), 7);
     let pads = &mut all_pads[0..pads_len];
     let step = session::sender_verify(record, key, table, &delta, message, pads);
     print_step(step, table, &delta, message, pads);
@@ -293,14 +304,14 @@ fn batch_sender(
     correction: &mut [u8],
     message: &mut [u8],
 ) -> rules::Record
-    requires { ⌜ 60 ≤ length (now p) ⌝ }
+    requires { ⌜ 64 ≤ length (now p) ⌝ }
 {
-    let table_len = length_at(p, 44);
-    let mut all_table = cases::derived(words::load32(p, 16), 4);
+    let table_len = length_at(p, 48);
+    let mut all_table = cases::derived(words::load32(p, 20), 4);
     let table = &mut all_table[0..table_len];
     let open = batch_correct(record, p, roots, correction, table);
-    damage(&p[60..], 1, message);
-    damage(&p[60..], 2, table);
+    damage(&p[64..], 1, message);
+    damage(&p[64..], 2, table);
     batch_verify(open, p, table, message)
 }
 
@@ -308,12 +319,12 @@ fn batch_sender(
 // both sides' pads, and the alterations: of the correction (0) and the message (1) as the sender gets them, and of W (2), delta (3) and the
 // key (4) at the verify. The four steps, a line each.
 fn batch(both: Sessions, p: &[u8]) -> Sessions {
-    if p.len() < 60 {
+    if p.len() < 64 {
         return both;
     }
-    let seed = words::load32(p, 16);
-    let roots_len = length_at(p, 36);
-    let correction_len = length_at(p, 48);
+    let seed = words::load32(p, 20);
+    let roots_len = length_at(p, 40);
+    let correction_len = length_at(p, 52);
     let all_roots = cases::derived(seed, 0);
     let mut all_correction = cases::derived(seed, 3);
     let mut all_message = cases::derived(seed, 5);
@@ -327,11 +338,11 @@ fn batch(both: Sessions, p: &[u8]) -> Sessions {
 
 // The records that the two sessions are to have.
 fn set(both: Sessions, p: &[u8]) -> Sessions {
-    if p.len() != 32 {
+    if p.len() != 40 {
         return both;
     }
     let receiver = record_at(p, 0);
-    let sender = record_at(p, 16);
+    let sender = record_at(p, 20);
     Sessions { receiver, sender }
 }
 
@@ -343,8 +354,8 @@ fn open(both: Sessions, p: &[u8]) -> Sessions {
     let width = words::load32(p, 0);
     let first = session::open(both.receiver, width);
     let second = session::open(both.sender, width);
-    cases::print(&outcome(first));
-    cases::print(&outcome(second));
+    print_line(&outcome(first), first);
+    print_line(&outcome(second), second);
     let receiver = first.record;
     let sender = second.record;
     Sessions { receiver, sender }

@@ -33,7 +33,7 @@ one-fails n p i h e = here (every n p) (every-of n p)
     here false all = refl
 
 -- one of two conditions holds
-either-of : {P : Type 0} (a b : Bool) → (a ≡ true → P) → (b ≡ true → P) → (a || b) ≡ true → P
+pub either-of : {P : Type 0} (a b : Bool) → (a ≡ true → P) → (b ≡ true → P) → (a || b) ≡ true → P
 either-of true b f g e = f refl
 either-of false b f g e = g e
 

@@ -1,25 +1,24 @@
 -- The laws of a file's answer and of its head. Assumes nothing.
-use mathlib.Core.Path.{_≡_, refl, sym, ap, ap₂, _∙_}
+use mathlib.Core.Path.{_≡_, refl, sym, ap, ap₂, _∙_, subst}
 use mathlib.Core.Bool.{Bool, true, false, _&&_}
 use mathlib.Core.List.{List, [], _∷_}
-use Prim.Native.Nat.{ℕ, _+_, _≤_, _<_}
+use mathlib.Core.Logic.{_≢_}
+use Prim.Native.Nat.{ℕ, _+_, _-_, _≤_, _<_}
 use native.Mathlib.Omega.{arith}
 use native.Mathlib.Decide.{ℕ-discrete}
 use lib.Dec.{eqb}
 use lib.ListN.{length, getD, drop, length-drop}
 use lib.Seq.{take-all}
 use borrow.Author.Tests.{eqb-true, eq-eqb, ne-eqb, le-leb, lt-leb}
-use Rattle.words.specs.Bytes.{littleEndian, word32, part}
+use Rattle.words.specs.Bytes.{littleEndian, part}
 use Rattle.words.proofs.Concat.{part-at, part-length, part-part}
-use Rattle.words.proofs.Numbers.{word32-here}
-use Rattle.sizes.specs.Sizes.{headLength}
+use Rattle.sizes.specs.Sizes.{headLength, shortHeadLength}
 use Rattle.answer.specs.declared.Answer.the-variants.{Contents, Body}
 use Rattle.answer.specs.Answer.{isDone, firstOf}
 use Rattle.answer.proofs.Order.{AllHold, all-hold, is-done, onward, refused-at}
 use Rattle.rules.specs.Orders.{headRight}
-use Rattle.batchfile.specs.File.{countOf, lengthAt, placeAt, contentsRight, present, entryOf, bodyOf, headIn, headOf, valuesOrder, readOrder, readAnswer, Taken}
-use Rattle.batchfile.specs.HeadAt.{headAt}
-use Rattle.batchfile.proofs.Contents.{standing, body-is, body-length, body-fits}
+use Rattle.batchfile.specs.File.{countOf, placeAt, contentsRight, present, entryOf, bodyOf, headIn, valuesOrder, readOrder, readAnswer, Taken}
+use Rattle.batchfile.proofs.Contents.{either-of, standing, body-is, body-length, body-fits}
 
 -- ---- the answer, condition by condition
 
@@ -57,31 +56,49 @@ setup-present n h = here (ℕ-discrete n 5)
 
 -- ---- the head, read where it stands
 
-six : (file : List ℕ) (at : ℕ) → at + headLength ≤ length file → headIn (part at headLength file) ≡ headAt file at
-six file at h =
-    let body : List ℕ = part at 6 file in
-    let byte : (i j : ℕ) → i < 6 → at + i ≡ j → getD body i 0 ≡ getD file j 0
-    = λ i j lt e. part-at at 6 file i lt ∙ ap (λ (k : ℕ). getD file k 0) e in
-    let batch : littleEndian (drop 2 body) ≡ word32 file (at + 2)
-    = ap littleEndian (sym (take-all 4 (drop 2 body) (omega (arith, length-drop 2 body, part-length at 6 file h))) ∙ part-part 2 4 at 6 file (omega arith))
-    ∙ sym (word32-here file (at + 2)) in
-    ap (λ (x : ℕ). record { width = getD body 0 0; blocks = getD body 1 0; batch = x }) batch
-    ∙ ap₂ (λ (x y : ℕ). record { width = x; blocks = y; batch = word32 file (at + 2) })
+-- what holds of 10 and of 6 holds of a head's length
+pub head-cases : (P : ℕ → Type 0) → P headLength → P shortHeadLength → (head : ℕ) → headRight head ≡ true → P head
+head-cases P long short head =
+    either-of (eqb head headLength) (eqb head shortHeadLength)
+    (λ e. subst P (sym (eqb-true head headLength e)) long) (λ e. subst P (sym (eqb-true head shortHeadLength e)) short)
+
+pub head-least : (head : ℕ) → headRight head ≡ true → 2 ≤ head
+head-least = head-cases (λ (n : ℕ). 2 ≤ n) (omega arith) (omega arith)
+
+pub head-most : (head : ℕ) → headRight head ≡ true → head ≤ headLength
+head-most = head-cases (λ (n : ℕ). n ≤ headLength) (omega arith) (omega arith)
+
+-- one that isn't short is long
+pub head-long : (head : ℕ) → headRight head ≡ true → head ≢ shortHeadLength → head ≡ headLength
+head-long = head-cases (λ (n : ℕ). n ≢ shortHeadLength → n ≡ headLength) (λ not-short. refl) (λ not-short. absurd (not-short refl))
+
+-- its first two bytes, and the number in the others
+pub head-there : (file : List ℕ) (at head : ℕ) → 2 ≤ head → at + head ≤ length file
+    → headIn (part at head file)
+    ≡ record { width = getD file at 0; blocks = getD file (at + 1) 0; batch = littleEndian (part (at + 2) (head - 2) file) }
+head-there file at head least fits =
+    let body : List ℕ = part at head file in
+    let byte : (i j : ℕ) → i < head → at + i ≡ j → getD body i 0 ≡ getD file j 0
+    = λ i j lt e. part-at at head file i lt ∙ ap (λ (k : ℕ). getD file k 0) e in
+    let others : drop 2 body ≡ part (at + 2) (head - 2) file
+    = sym (take-all (head - 2) (drop 2 body) (omega (arith, length-drop 2 body, part-length at head file fits)))
+    ∙ part-part 2 (head - 2) at head file (omega arith) in
+    ap (λ (s : List ℕ). record { width = getD body 0 0; blocks = getD body 1 0; batch = littleEndian s }) others
+    ∙ ap₂ (λ (x y : ℕ). record { width = x; blocks = y; batch = littleEndian (part (at + 2) (head - 2) file) })
     (byte 0 at (omega arith) (omega arith)) (byte 1 (at + 1) (omega arith) (omega arith))
 
-module _ (file : List ℕ) (right : contentsRight file ≡ true) (size : headRight (length (bodyOf file 2)) ≡ true) where
-  head-length : lengthAt file (entryOf (countOf file) 2) ≡ headLength
-  head-length =
-      let n = standing file right .counts in
-      sym (body-length file right 2 (omega (arith, n .least)) (omega arith)) ∙ eqb-true (length (bodyOf file 2)) headLength size
+-- a file's head stands at the place of its entry, and in the file
+module _ (file : List ℕ) (right : contentsRight file ≡ true) where
+  abbrev e : ℕ
+  e = entryOf (countOf file) 2
 
-  pub head-fits : placeAt file (entryOf (countOf file) 2) + headLength ≤ length file
+  pub head-body : bodyOf file 2 ≡ part (placeAt file e) (length (bodyOf file 2)) file
+  head-body =
+      let n = standing file right .counts in
+      body-is file 2 (omega (arith, n .least)) (omega arith)
+      ∙ ap (λ (m : ℕ). part (placeAt file e) m file) (sym (body-length file right 2 (omega (arith, n .least)) (omega arith)))
+
+  pub head-fits : placeAt file e + length (bodyOf file 2) ≤ length file
   head-fits =
       let n = standing file right .counts in
-      omega (arith, head-length, body-fits file right (entryOf (countOf file) 2) (omega (arith, n .least)))
-
-  pub head-is : headOf file ≡ headAt file (placeAt file (entryOf (countOf file) 2))
-  head-is =
-      let n = standing file right .counts in
-      let at : ℕ = placeAt file (entryOf (countOf file) 2) in
-      ap headIn (body-is file 2 (omega (arith, n .least)) (omega arith) ∙ ap (λ (m : ℕ). part at m file) head-length) ∙ six file at head-fits
+      omega (arith, body-length file right 2 (omega (arith, n .least)) (omega arith), body-fits file right e (omega (arith, n .least)))

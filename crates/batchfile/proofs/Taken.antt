@@ -9,18 +9,18 @@ use native.Mathlib.Decide.{ℕ-discrete}
 use lib.ListN.{length}
 use borrow.Author.Tests.{eqb-true}
 use Rattle.answer.specs.Answer.{isDone}
-use Rattle.sizes.specs.Sizes.{widthAllowed, contentsLength, setupMessageLength, headLength, correctionLength}
+use Rattle.sizes.specs.Sizes.{widthAllowed, contentsLength, setupMessageLength, correctionLength}
 use Rattle.sizes.proofs.Widths.{width-cases}
-use Rattle.rules.specs.Orders.{mostBlocks, setupRight}
+use Rattle.rules.specs.Orders.{mostBlocks, headRight, setupRight}
 use Rattle.rules.proofs.Fits.{FileTells, file-fits}
 use Rattle.batchfile.specs.File.{countOf, placeAt, contentsRight, present, entryOf, bodyOf, headOf, Taken, longestFile}
 use Rattle.batchfile.proofs.Contents.{standing, place-first, place-more, none-below, body-length}
-use Rattle.batchfile.proofs.Reading.{read-all}
+use Rattle.batchfile.proofs.Reading.{read-all, head-most}
 
--- its contents are right, its head has 6 bytes, and the head's values and the bodies' lengths keep their bounds
+-- its contents are right, its head has one of its two lengths, and the head's values and the bodies' lengths keep their bounds
 pub record TakenTells (file : List ℕ) : Type 0 where
   pub right : contentsRight file ≡ true
-  pub head-long : length (bodyOf file 2) ≡ headLength
+  pub head-right : headRight (length (bodyOf file 2)) ≡ true
   pub values : FileTells (headOf file .width) (headOf file .batch) (headOf file .blocks) (present (countOf file) 1)
       (length (bodyOf file 1)) (length (bodyOf file 3)) (length (bodyOf file 4)) (length (bodyOf file 5))
 
@@ -29,7 +29,7 @@ taken-tells file taken =
     let all = read-all file (ap isDone taken) in
     record {
       right = all .0;
-      head-long = eqb-true (length (bodyOf file 2)) headLength (all .1 .0);
+      head-right = all .1 .0;
       values =
           file-fits (headOf file .width) (headOf file .batch) (headOf file .blocks) (present (countOf file) 1)
           (length (bodyOf file 1)) (length (bodyOf file 3)) (length (bodyOf file 4)) (length (bodyOf file 5)) (all .1 .1);
@@ -86,7 +86,7 @@ longest file taken =
     let told = taken-tells file taken in
     let v = told .values in
     let n = standing file (told .right) .counts in
-    omega (arith, file-length file (told .right), n .most, setup-most (setup-long file taken), told .head-long, v .correction-long, correction-most (headOf file .width) (headOf file .blocks) (v .width-right) (v .few), v .key-long, v .check-long)
+    omega (arith, file-length file (told .right), n .most, setup-most (setup-long file taken), head-most (length (bodyOf file 2)) (told .head-right), v .correction-long, correction-most (headOf file .width) (headOf file .blocks) (v .width-right) (v .few), v .key-long, v .check-long)
   where
     setup-most : (length (bodyOf file 1) ≡ 0) ⊎ (length (bodyOf file 1) ≡ setupMessageLength) → length (bodyOf file 1) ≤ setupMessageLength
     setup-most (inl e) = omega arith

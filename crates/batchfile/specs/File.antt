@@ -1,4 +1,4 @@
--- A batch on file. Paper 02, note 1. Assumes nothing.
+-- A batch on file. Paper 02, notes 1 and 3. Assumes nothing.
 use mathlib.Core.Path.{_≡_}
 use mathlib.Core.Bool.{Bool, cond, _&&_, _||_}
 use mathlib.Core.List.{[], _∷_}
@@ -74,7 +74,7 @@ entryOf count kind = kind + count - 6
 unfoldable pub bodyOf : (file : Range) (kind : ℕ) → Range
 bodyOf file kind = cond (present (countOf file) kind) (bodyAt file (entryOf (countOf file) kind)) []
 
--- the head: width 1 byte, blocks 1, batch 4
+-- the head: width 1 byte, blocks 1, and the batch number in the others, 8 or, of a short head, 4
 abbrev pub headIn : (body : Range) → FileHead
 headIn body = record { width = getD body 0 0; blocks = getD body 1 0; batch = littleEndian (drop 2 body) }
 
@@ -89,7 +89,7 @@ valuesOrder file =
     fileOrder (headOf file .width) (headOf file .batch) (headOf file .blocks)
     (present (countOf file) 1) (length (bodyOf file 1)) (length (bodyOf file 3)) (length (bodyOf file 4)) (length (bodyOf file 5))
 
--- 7 before these; and a head not 6 bytes long is refused before 1
+-- 7 before these; and a head of neither length gets 8 before 1
 abbrev pub readOrder : (file : Range) → Order
 readOrder file = (contentsRight file, Contents) ∷ (headRight (length (bodyOf file 2)), Body) ∷ valuesOrder file
 
@@ -139,6 +139,6 @@ beginOf p end kind = getD (end ∷ p .setup ∷ p .head ∷ p .correction ∷ p 
 abbrev pub endOf : (p : Places) (end kind : ℕ) → ℕ
 endOf p end kind = getD (end ∷ p .head ∷ p .correction ∷ p .key ∷ p .check ∷ []) kind end
 
--- no file that is read is longer: 25,558
+-- no file that is read is longer: 25,562
 abbrev pub longestFile : ℕ
 longestFile = contentsLength 5 + (setupMessageLength + headLength + correctionLength 1 mostBlocks + keyLength + checkMessageLength)

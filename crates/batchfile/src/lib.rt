@@ -3,16 +3,15 @@ mod values;
 
 use answer::Answer;
 ghost use mathlib.Core.Path.{_≡_};
-ghost use mathlib.Core.Bool.{true, _&&_};
-ghost use Prim.Native.Nat.{_+_, _^_, _≤_, _<_};
+ghost use mathlib.Core.Bool.{true, false, _&&_};
+ghost use Prim.Native.Nat.{_+_, _-_, _^_, _≤_, _<_};
 ghost use lib.Dec.{eqb};
 ghost use lib.ListN.{length};
-ghost use Rattle.words.specs.Bytes.{every};
-ghost use Rattle.sizes.specs.Sizes.{contentsLength, headLength};
-ghost use Rattle.answer.specs.Answer.{firstOf};
+ghost use Rattle.words.specs.Bytes.{littleEndian, part, every};
+ghost use Rattle.sizes.specs.Sizes.{contentsLength};
+ghost use Rattle.answer.specs.Answer.{isDone, firstOf};
 ghost use Rattle.rules.specs.Orders.{headRight};
-ghost use Rattle.batchfile.specs.File.{countOf, fieldAt, placeAt, entryRight, contentsRight, entryOf, bodyOf, headOf, valuesOrder, readAnswer, placesOf, nowhere, noHead, longestFile, ReadFile};
-ghost use Rattle.batchfile.specs.HeadAt.{headAt};
+ghost use Rattle.batchfile.specs.File.{countOf, fieldAt, placeAt, entryRight, contentsRight, entryOf, bodyOf, headIn, headOf, valuesOrder, readAnswer, placesOf, nowhere, noHead, longestFile, ReadFile};
 
 // What a head says: the width, the blocks and the batch number.
 pub struct FileHead {
@@ -89,6 +88,34 @@ fn bodies_stand(file: &[u8], n: usize) -> bool
     place == file.len()
 }
 
+// Whether the contents of a file of four or five entries are right.
+fn counted_right(file: &[u8], n: usize) -> bool
+    requires { ⌜ (n ≡ countOf (now file)) × (4 ≤ n) × (n ≤ 5) ⌝ }
+    ensures { λ r. ⌜ r ≡ contentsRight (now (file .entry)) ⌝ }
+{
+    if file.len() < contents_length(n) {
+        return false;
+    }
+    bodies_stand(file, n)
+}
+
+// And of any file. Each count is named, so that the compiler makes straight code for each.
+fn contents_right(file: &[u8]) -> bool
+    ensures { λ r. ⌜ r ≡ contentsRight (now (file .entry)) ⌝ }
+{
+    if file.len() < contents_length(0) {
+        return false;
+    }
+    let n = count(file);
+    if n == 5 {
+        return counted_right(file, 5);
+    }
+    if n == 4 {
+        return counted_right(file, 4);
+    }
+    false
+}
+
 // Of n entries, a field of that of a kind but the setup.
 fn field_of(file: &[u8], n: usize, kind: usize, i: usize) -> usize
     requires { ⌜ (contentsRight (now file) ≡ true) × (n ≡ countOf (now file)) × (2 ≤ kind) × (kind ≤ 5) × (i < 3) ⌝ }
@@ -124,15 +151,26 @@ fn setup_length(file: &[u8], n: usize) -> usize
     0
 }
 
-// The head of 6 bytes at a place.
-fn head_at(file: &[u8], at: usize) -> FileHead
-    requires { ⌜ at + headLength ≤ length (now file) ⌝ }
-    ensures { λ r. ⌜ r ≡ headAt (now (file .entry)) at ⌝ }
+// The batch number of a head of a length, at its place: all of the head but two bytes.
+fn batch_at(file: &[u8], at: usize, head: usize) -> u64
+    requires { ⌜ (headRight head ≡ true) × (at + (head - 2) ≤ length (now file)) ⌝ }
+    ensures { λ r. ⌜ r ≡ littleEndian (part at (head - 2) (now (file .entry))) ⌝ }
+{
+    if head == sizes::SHORT_HEAD_LENGTH {
+        return words::load32(file, at) as u64;
+    }
+    words::load64(file, at)
+}
+
+// The head of a length at a place.
+fn head_at(file: &[u8], at: usize, head: usize) -> FileHead
+    requires { ⌜ (headRight head ≡ true) × (at + head ≤ length (now file)) ⌝ }
+    ensures { λ r. ⌜ r ≡ headIn (part at head (now (file .entry))) ⌝ }
 {
     FileHead {
         width: file[at] as u32,
         blocks: file[at + 1] as u32,
-        batch: words::load32(file, at + 2) as u64,
+        batch: batch_at(file, at + 2, head),
     }
 }
 
@@ -141,7 +179,8 @@ fn head_of(file: &[u8], n: usize) -> FileHead
     requires { ⌜ (contentsRight (now file) ≡ true) × (n ≡ countOf (now file)) × (headRight (length (bodyOf (now file) 2)) ≡ true) ⌝ }
     ensures { λ r. ⌜ r ≡ headOf (now (file .entry)) ⌝ }
 {
-    head_at(file, place_of(file, n, 2))
+    let at = place_of(file, n, 2);
+    head_at(file, at, length_of(file, n, 2))
 }
 
 // The answer of the head's values and the bodies' lengths.
@@ -159,40 +198,6 @@ fn values_answer(file: &[u8], n: usize, head: FileHead) -> Answer
         length_of(file, n, 4),
         length_of(file, n, 5),
     )
-}
-
-// The answer of a file of four or five entries.
-fn counted_answer(file: &[u8], n: usize) -> Answer
-    requires { ⌜ (n ≡ countOf (now file)) × (4 ≤ n) × (n ≤ 5) ⌝ }
-    ensures { λ r. ⌜ r ≡ readAnswer (now (file .entry)) ⌝ }
-{
-    if file.len() < contents_length(n) {
-        return Answer::Contents;
-    }
-    if !bodies_stand(file, n) {
-        return Answer::Contents;
-    }
-    if length_of(file, n, 2) != sizes::HEAD_LENGTH {
-        return Answer::Body;
-    }
-    values_answer(file, n, head_of(file, n))
-}
-
-// The answer that a file gets. Each count is named, so that the compiler makes straight code for each.
-fn read_answer(file: &[u8]) -> Answer
-    ensures { λ r. ⌜ r ≡ readAnswer (now (file .entry)) ⌝ }
-{
-    if file.len() < contents_length(0) {
-        return Answer::Contents;
-    }
-    let n = count(file);
-    if n == 5 {
-        return counted_answer(file, 5);
-    }
-    if n == 4 {
-        return counted_answer(file, 4);
-    }
-    Answer::Contents
 }
 
 // Where the bodies of a file of n entries begin.
@@ -233,21 +238,11 @@ fn no_head() -> FileHead
     }
 }
 
-// Reads a file, whatever it holds.
-pub fn find(file: &[u8]) -> Found
+// What is found of a file that is refused: no head, and no body.
+fn refused(file: &[u8], answer: Answer) -> Found
+    requires { ⌜ (answer ≡ readAnswer (now file)) × (isDone answer ≡ false) ⌝ }
     ensures { λ r. ⌜ ReadFile (now (file .entry)) (r .answer) (r .head) (r .places) ⌝ }
 {
-    let answer = read_answer(file);
-    if answer::is_done(answer) {
-        let n = count(file);
-        let head = head_of(file, n);
-        let places = places_of(file, n);
-        return Found {
-            answer,
-            head,
-            places,
-        };
-    }
     let head = no_head();
     let places = nowhere(file.len());
     Found {
@@ -257,8 +252,32 @@ pub fn find(file: &[u8]) -> Found
     }
 }
 
+// Reads a file, whatever it holds.
+pub fn find(file: &[u8]) -> Found
+    ensures { λ r. ⌜ ReadFile (now (file .entry)) (r .answer) (r .head) (r .places) ⌝ }
+{
+    if !contents_right(file) {
+        return refused(file, Answer::Contents);
+    }
+    let n = count(file);
+    if !values::head_right(length_of(file, n, 2)) {
+        return refused(file, Answer::Body);
+    }
+    let head = head_of(file, n);
+    let answer = values_answer(file, n, head);
+    if answer::is_done(answer) {
+        let places = places_of(file, n);
+        return Found {
+            answer,
+            head,
+            places,
+        };
+    }
+    refused(file, answer)
+}
+
 // No file that is read is longer.
-pub const LONGEST_FILE: usize = 25558;
+pub const LONGEST_FILE: usize = 25562;
 
 // A constant has no contract of its own: this holds it to the definition.
 pub fn longest_file() -> usize

@@ -3,7 +3,7 @@
 use answer::Answer;
 ghost use mathlib.Core.Path.{_≡_};
 ghost use Rattle.answer.specs.Answer.{firstOf};
-ghost use Rattle.rules.specs.Orders.{headOrder, setupRight, bodiesRight, fileOrder};
+ghost use Rattle.rules.specs.Orders.{headOrder, headRight, setupRight, bodiesRight, fileOrder};
 
 // The answer of the head's values.
 fn head_answer(width: u32, batch: u64, blocks: u32) -> Answer
@@ -19,6 +19,16 @@ fn head_answer(width: u32, batch: u64, blocks: u32) -> Answer
         return Answer::Blocks;
     }
     Answer::Done
+}
+
+// Whether a head has one of its two lengths.
+pub fn head_right(head: usize) -> bool
+    ensures { λ r. ⌜ r ≡ headRight head ⌝ }
+{
+    if head == sizes::HEAD_LENGTH {
+        return true;
+    }
+    head == sizes::SHORT_HEAD_LENGTH
 }
 
 // Whether a setup has its length where it is present.

@@ -17,7 +17,7 @@ struct Sessions {
 
 // A batch to be played: its number, blocks and key, and what is added to a byte of tree 1's correction on its way to the sender.
 struct Batch {
-    number: u32,
+    number: u64,
     blocks: u32,
     key: u64,
     flip: u8,
@@ -63,7 +63,7 @@ fn say_side(name: &[u8], start: session::Stepped, end: session::Stepped) {
     let first = start.answer;
     let second = end.answer;
     say(name);
-    say_number(b": last ", after.last as u64);
+    say_number(b": last ", after.last);
     say_number(b", blocks ", open.blocks as u64);
     say_number(b", transfers ", transfers(second, open.blocks));
     say_number(b", answers ", answer::number_of(first) as u64);
@@ -315,7 +315,7 @@ fn steps_and_pads(
 fn play(both: Sessions, b: Batch, roots: &[u8], delta: &[u8], siblings: &[u8]) -> Sessions
     requires { ⌜ (b .blocks) ≤ 15 ⌝ }
 {
-    say_number(b"batch ", b.number as u64);
+    say_number(b"batch ", b.number);
     say(b"\n");
     let mut all_choices = [0u8; 128];
     let mut all_mine = [0u8; 30720];
@@ -332,7 +332,7 @@ fn planned(number: u32, blocks: u32, flip: u8) -> Batch
 {
     let key = words::load64(&cases::derived(2, number), 0);
     Batch {
-        number,
+        number: number as u64,
         blocks,
         key,
         flip,

@@ -52,7 +52,7 @@ pub extern "C" fn softspoken_open(rec: &mut Record, width: u32) -> u32
 pub extern "C" fn softspoken_receiver_start(
     rec: &mut Record,
     roots: &[u8],
-    batch: u32,
+    batch: u64,
     blocks: u32,
     choices: &mut [u8],
     table: &mut [u8],
@@ -71,7 +71,7 @@ pub extern "C" fn softspoken_sender_correct(
     rec: &mut Record,
     siblings: &[u8],
     delta: &[u8],
-    batch: u32,
+    batch: u64,
     blocks: u32,
     correction: &[u8],
     table: &mut [u8],

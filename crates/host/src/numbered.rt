@@ -22,7 +22,7 @@ pub fn open(r: Record, width: u32) -> Outcome
 pub fn receiver_start(
     r: Record,
     roots: &[u8],
-    batch: u32,
+    batch: u64,
     blocks: u32,
     choices: &mut [u8],
     table: &mut [u8],
@@ -41,7 +41,7 @@ pub fn sender_correct(
     r: Record,
     siblings: &[u8],
     delta: &[u8],
-    batch: u32,
+    batch: u64,
     blocks: u32,
     correction: &[u8],
     table: &mut [u8],

@@ -51,7 +51,7 @@ pub fn sender_setup(
 }
 
 // The answer of both steps that open a batch, before their lengths.
-fn open_batch(r: Record, batch: u32, blocks: u32) -> Answer
+fn open_batch(r: Record, batch: u64, blocks: u32) -> Answer
     ensures { λ x. ⌜ x ≡ firstOf (batchOrder r batch blocks) ⌝ }
 {
     let mut a = open_session(r.width);
@@ -73,7 +73,7 @@ fn end_batch(r: Record) -> Answer
 // The answer of the receiver's start.
 pub fn receiver_start(
     r: Record,
-    batch: u32,
+    batch: u64,
     blocks: u32,
     roots: usize,
     choices: usize,
@@ -92,7 +92,7 @@ pub fn receiver_start(
 // The answer of the sender's correction.
 pub fn sender_correct(
     r: Record,
-    batch: u32,
+    batch: u64,
     blocks: u32,
     siblings: usize,
     delta: usize,

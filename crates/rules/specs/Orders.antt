@@ -6,7 +6,7 @@ use lib.Dec.{eqb, leb, ltb}
 use Rattle.sizes.specs.Sizes.{widthAllowed, deltaLength, rootsLength, receiverBasePadsLength, senderBasePadsLength}
 use Rattle.sizes.specs.Sizes.{setupMessageLength, siblingsLength}
 use Rattle.sizes.specs.Sizes.{columnLength, tableLength, correctionLength, checkMessageLength, receiverPadsLength, senderPadsLength}
-use Rattle.sizes.specs.Sizes.{headLength, keyLength}
+use Rattle.sizes.specs.Sizes.{headLength, shortHeadLength, keyLength}
 use Rattle.answer.specs.declared.Answer.{Answer}
 use Rattle.answer.specs.declared.Answer.the-variants.{Width, Stage, Batch, Blocks, Length, Check, Body}
 use Rattle.answer.specs.Answer.{Order}
@@ -140,15 +140,15 @@ beforeCheck r table delta message pads =
 abbrev pub verifyOrder : (r : Record) (table delta message pads : ℕ) (accepted : Bool) → Order
 verifyOrder r table delta message pads accepted = beforeCheck r table delta message pads ++ ((accepted, Check) ∷ [])
 
--- ---- a batch on file. Paper 02, note 1
+-- ---- a batch on file. Paper 02, notes 1 and 3
 
 -- head values keep paper 01's bounds: 1, 3 for batch 0, and 4
 abbrev pub headOrder : (width batch blocks : ℕ) → Order
 headOrder width batch blocks = (widthAllowed width, Width) ∷ (ltb 0 batch, Batch) ∷ (blocksAllowed blocks, Blocks) ∷ []
 
--- a body enters by its length. The head's is 6
+-- a body enters by its length. The head's is 10, and a 6-byte head is still read
 abbrev pub headRight : (head : ℕ) → Bool
-headRight head = eqb head headLength
+headRight head = eqb head headLength || eqb head shortHeadLength
 
 -- the setup's 8,192, where it is present
 abbrev pub setupRight : (present : Bool) (setup : ℕ) → Bool

@@ -3,13 +3,13 @@
 ghost use mathlib.Core.Path.{_≡_};
 ghost use Rattle.rules.specs.Orders.{newRecord, withBatch, withoutBatch, closed, blocksAllowed, batchFollows};
 
-// The record of a session: its width, the last batch number (0 for none), the blocks of the open batch, and the stage (0 ready, 1 open,
-// 2 closed). It may hold any numbers.
+// The record of a session: its width, the blocks of the open batch, the last batch number (0 for none), and the stage (0 ready, 1 open,
+// 2 closed). It may hold any numbers. In this order C lays it out without a hole before its end.
 #[repr(C)]
 pub struct Record {
     pub width: u32,
-    pub last: u32,
     pub blocks: u32,
+    pub last: u64,
     pub stage: u32,
 }
 
@@ -27,20 +27,20 @@ pub fn new_record(width: u32) -> Record
 {
     Record {
         width,
-        last: 0,
         blocks: 0,
+        last: 0,
         stage: READY,
     }
 }
 
 // The record of a batch that is opened.
-pub fn with_batch(r: Record, batch: u32, blocks: u32) -> Record
+pub fn with_batch(r: Record, batch: u64, blocks: u32) -> Record
     ensures { λ x. ⌜ x ≡ withBatch r batch blocks ⌝ }
 {
     Record {
         width: r.width,
-        last: batch,
         blocks,
+        last: batch,
         stage: OPEN,
     }
 }
@@ -51,8 +51,8 @@ pub fn without_batch(r: Record) -> Record
 {
     Record {
         width: r.width,
-        last: r.last,
         blocks: 0,
+        last: r.last,
         stage: READY,
     }
 }
@@ -63,8 +63,8 @@ pub fn closed(r: Record) -> Record
 {
     Record {
         width: r.width,
-        last: r.last,
         blocks: r.blocks,
+        last: r.last,
         stage: CLOSED,
     }
 }
@@ -80,7 +80,7 @@ pub fn blocks_allowed(blocks: u32) -> bool
 }
 
 // Whether a batch number may follow the last.
-pub fn batch_follows(last: u32, batch: u32) -> bool
+pub fn batch_follows(last: u64, batch: u64) -> bool
     ensures { λ r. ⌜ r ≡ batchFollows last batch ⌝ }
 {
     if batch == 0 {

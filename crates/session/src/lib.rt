@@ -27,7 +27,7 @@ pub fn open(r: Record, width: u32) -> Stepped
 }
 
 // What the streams of a batch are drawn by: of each leaf, the stream of that batch.
-fn stream_of(batch: u32) -> Stream
+fn stream_of(batch: u64) -> Stream
     ensures { λ x. ⌜ byteOf x ≡ streamByte batch ⌝ }
 {
     Stream { batch }
@@ -37,7 +37,7 @@ fn stream_of(batch: u32) -> Stream
 pub fn receiver_start(
     r: Record,
     roots: &[u8],
-    batch: u32,
+    batch: u64,
     blocks: u32,
     choices: &mut [u8],
     table: &mut [u8],
@@ -77,7 +77,7 @@ pub fn sender_correct(
     r: Record,
     siblings: &[u8],
     delta: &[u8],
-    batch: u32,
+    batch: u64,
     blocks: u32,
     correction: &[u8],
     table: &mut [u8],
@@ -127,7 +127,7 @@ pub fn receiver_answer(
     let answer = orders::receiver_answer(r, choices.len(), table.len(), message.len(), pads.len());
     if answer::is_done(answer) {
         consistency::write_message(sizes::COLUMNS, key, choices, table, message);
-        pads::receiver_pads(r.blocks as usize, r.last as u64, table, pads);
+        pads::receiver_pads(r.blocks as usize, r.last, table, pads);
         let record = rules::without_batch(r);
         Stepped { answer, record }
     } else {
@@ -150,7 +150,7 @@ pub fn sender_verify(
     if answer::is_done(answer) {
         let len = sizes::column_length(r.blocks);
         if consistency::accepts(sizes::COLUMNS, len, key, table, delta, message) {
-            pads::sender_pads(r.blocks as usize, r.last as u64, table, delta, pads);
+            pads::sender_pads(r.blocks as usize, r.last, table, delta, pads);
             let record = rules::without_batch(r);
             Stepped { answer, record }
         } else {

@@ -1,5 +1,5 @@
 -- Widths, columns, trees, and the length of every byte range that a step is lent. Paper 01, 'Words and layouts' and 'Steps and their
--- turning away'; of a batch on file, paper 02, note 1. Assumes nothing.
+-- turning away'; of a batch on file, paper 02, notes 1 and 3. Assumes nothing.
 use mathlib.Core.Bool.{Bool, _||_}
 use Prim.Native.Nat.{ℕ, _+_, _-_, _*_, _/_}
 use lib.Dec.{eqb}
@@ -74,9 +74,12 @@ senderPadsLength blocks = 64 * transfers blocks
 abbrev pub contentsLength : (count : ℕ) → ℕ
 contentsLength count = 4 + 12 * count
 
--- the head: width 1 byte, blocks 1, batch 4
+-- the head: width 1 byte, blocks 1, batch 8; a short head, which is still read, has the batch in 4
 abbrev pub headLength : ℕ
-headLength = 6
+headLength = 10
+
+abbrev pub shortHeadLength : ℕ
+shortHeadLength = 6
 
 -- the key, a 64-bit number
 abbrev pub keyLength : ℕ

@@ -1,7 +1,7 @@
 // Widths, columns, trees, and the length of every byte range that a step is lent, by the names of the definitions.
 ghost use mathlib.Core.Path.{_≡_};
 ghost use mathlib.Core.List.{[], _∷_};
-ghost use Rattle.sizes.specs.Sizes.{widthAllowed, columns, treesOf, deltaLength, receiverBasePadsLength, senderBasePadsLength, setupMessageLength, siblingsLength, checkMessageLength, columnLength, rootsLength, tableLength, correctionLength, receiverPadsLength, senderPadsLength, headLength, keyLength};
+ghost use Rattle.sizes.specs.Sizes.{widthAllowed, columns, treesOf, deltaLength, receiverBasePadsLength, senderBasePadsLength, setupMessageLength, siblingsLength, checkMessageLength, columnLength, rootsLength, tableLength, correctionLength, receiverPadsLength, senderPadsLength, headLength, shortHeadLength, keyLength};
 
 pub const COLUMNS: usize = 128;
 
@@ -17,13 +17,15 @@ pub const SIBLINGS_LENGTH: usize = 32 * COLUMNS;
 
 pub const CHECK_MESSAGE_LENGTH: usize = 8 * (1 + COLUMNS);
 
-pub const HEAD_LENGTH: usize = 6;
+pub const HEAD_LENGTH: usize = 10;
+
+pub const SHORT_HEAD_LENGTH: usize = 6;
 
 pub const KEY_LENGTH: usize = 8;
 
 // A constant has no contract of its own: this holds all of them to the definitions.
-pub fn constants() -> [usize; 9]
-    ensures { λ r. ⌜ r ≡ columns ∷ deltaLength ∷ receiverBasePadsLength ∷ senderBasePadsLength ∷ setupMessageLength ∷ siblingsLength ∷ checkMessageLength ∷ headLength ∷ keyLength ∷ [] ⌝ }
+pub fn constants() -> [usize; 10]
+    ensures { λ r. ⌜ r ≡ columns ∷ deltaLength ∷ receiverBasePadsLength ∷ senderBasePadsLength ∷ setupMessageLength ∷ siblingsLength ∷ checkMessageLength ∷ headLength ∷ shortHeadLength ∷ keyLength ∷ [] ⌝ }
 {
     [
         COLUMNS,
@@ -34,6 +36,7 @@ pub fn constants() -> [usize; 9]
         SIBLINGS_LENGTH,
         CHECK_MESSAGE_LENGTH,
         HEAD_LENGTH,
+        SHORT_HEAD_LENGTH,
         KEY_LENGTH,
     ]
 }

@@ -32,7 +32,7 @@ use Rattle.pads.proofs.Inputs.{pad-length}
 use Rattle.consistency.specs.Message.{checkMessage, accepts}
 use Rattle.consistency.proofs.MessageLaws.{message-length}
 use Rattle.rules.specs.declared.Record.{Record}
-use Rattle.rules.specs.Orders.{stageReady, stageOpen, withBatch, withoutBatch, has, batchOrder, endOrder, correctOrder, beforeCheck}
+use Rattle.rules.specs.Orders.{stageReady, stageOpen, withBatch, withoutBatch, has, batchOrder, endOrder, startOrder, correctOrder, beforeCheck}
 use Rattle.rules.proofs.Allowed.{blocks-allowed, batch-follows}
 use Rattle.session.specs.Steps.{SenderCorrect, SenderVerify}
 use Rattle.errors.specs.Errors.{Sent}
@@ -124,7 +124,16 @@ four-named : (cs : Order) (a a′ b b′ c c′ d d′ : ℕ) → AllHold cs →
 four-named cs a a′ b b′ c c′ d d′ h p q r s =
     hold-more cs (has a a′ ∷ has b b′ ∷ has c c′ ∷ has d d′ ∷ []) h (eq-eqb a a′ p, (eq-eqb b b′ q, (eq-eqb c c′ r, (eq-eqb d d′ s, tt))))
 
--- so the sender's correction is done where a batch may be opened and the lengths are those named
+-- so the steps that open a batch are done where one may be opened and the lengths are those named: the receiver's start
+pub start-allowed : (r : Record) (width batch blocks roots choices table correction : ℕ) → Ready r width → widthAllowed width ≡ true → r .last < batch
+    → 1 ≤ blocks → blocks ≤ 15 → roots ≡ rootsLength width → choices ≡ columnLength blocks → table ≡ tableLength blocks → correction ≡ correctionLength width blocks
+    → firstOf (startOrder r batch blocks roots choices table correction) ≡ Done
+start-allowed r width batch blocks roots choices table correction ready allowed next low high s u t c =
+    done-when _
+    (four-named (batchOrder r batch blocks) roots (rootsLength (r .width)) choices (columnLength blocks) table (tableLength blocks) correction (correctionLength (r .width) blocks)
+    (open-batch r width batch blocks ready allowed next low high) (s ∙ ap rootsLength (sym (ready .wide))) u t (c ∙ ap (λ (w : ℕ). correctionLength w blocks) (sym (ready .wide))))
+
+-- and the sender's correction
 pub correct-allowed : (q : Record) (width batch blocks siblings delta correction table : ℕ) → Ready q width → widthAllowed width ≡ true → q .last < batch
     → 1 ≤ blocks → blocks ≤ 15 → siblings ≡ siblingsLength → delta ≡ deltaLength → correction ≡ correctionLength width blocks → table ≡ tableLength blocks
     → firstOf (correctOrder q batch blocks siblings delta correction table) ≡ Done
@@ -195,13 +204,9 @@ module _ (h : HonestBatch) where
   -- the receiver's start
   start-done : h .a₃ ≡ Done
   start-done =
-      let wide = h .receiver-ready .wide in
       h .receiver-start .answered
-      ∙ done-when _
-      (four-named (batchOrder (h .r) (h .batch) (h .blocks)) _ (rootsLength (h .r .width)) _ len _ (tableLength (h .blocks)) _ (correctionLength (h .r .width) (h .blocks))
-      (open-batch (h .r) k (h .batch) (h .blocks) (h .receiver-ready) (h .width-allowed) (h .receiver-next) (h .some-blocks) (h .few-blocks))
-      (h .roots-length ∙ ap rootsLength (sym wide)) (h .choices-length) (h .v-length)
-      (h .correction-length ∙ ap (λ (w : ℕ). correctionLength w (h .blocks)) (sym wide)))
+      ∙ start-allowed (h .r) k (h .batch) (h .blocks) _ _ _ _ (h .receiver-ready) (h .width-allowed) (h .receiver-next) (h .some-blocks) (h .few-blocks)
+      (h .roots-length) (h .choices-length) (h .v-length) (h .correction-length)
 
   choices-is : h .choices′ ≡ choicesOf k stream len (h .roots)
   choices-is = h .receiver-start .chosen ∙ got (h .a₃) _ _ start-done ∙ ap (λ (w : ℕ). choicesOf w stream len (h .roots)) (h .receiver-ready .wide)

@@ -1,34 +1,36 @@
 -- The sizes and edge cases of paper 01 that are no rows of the table of cases, and those of paper 02. Assumes nothing.
-use mathlib.Core.Path.{_≡_, refl, sym, ap, _∙_}
-use mathlib.Core.Bool.{Bool, true, false, not, _&&_}
+use mathlib.Core.Path.{_≡_, refl, sym, ap, ap₂, _∙_}
+use mathlib.Core.Bool.{Bool, true, false, not, _&&_, _||_}
 use mathlib.Core.List.{List, [], _∷_, _++_}
-use mathlib.Core.Logic.{_⊎_, inl, inr}
+use mathlib.Core.Logic.{_⊎_, inl, inr, _≢_}
 use Prim.Native.Nat.{ℕ, _+_, _-_, _*_, _/_, _^_, _≤_, _<_}
 use native.Mathlib.Omega.{arith}
 use lib.Dec.{eqb, ltb}
 use lib.ListN.{length, replicate}
-use borrow.Author.Tests.{eq-eqb, lt-ltb, le-ltb}
+use borrow.Author.Tests.{eq-eqb, ne-eqb, lt-ltb, le-ltb}
 use Rattle.words.specs.Bytes.{Range, part}
 use Rattle.words.specs.Xor.{xorList}
 use Rattle.words.proofs.Lists.{scale-zero, scale-one}
 use Rattle.sizes.specs.Sizes.{widthAllowed, columns, columnLength, correctionLength}
+use Rattle.sizes.specs.Sizes.{deltaLength, rootsLength, siblingsLength, tableLength}
 use Rattle.answer.specs.declared.Answer.{Answer}
-use Rattle.answer.specs.declared.Answer.the-variants.{Done, Width, Stage, Batch, Blocks, Check}
+use Rattle.answer.specs.declared.Answer.the-variants.{Done, Width, Stage, Batch, Blocks, Check, Body}
 use Rattle.answer.specs.Answer.{isDone, Order, firstOf}
 use Rattle.answer.proofs.Order.{refused-at, reached}
 use Rattle.rows.specs.Row.{rowOf}
 use Rattle.pads.specs.Pads.{padOf, senderPads}
 use Rattle.rules.specs.declared.Record.{Record}
 use Rattle.rules.specs.Orders.{stageReady, stageOpen, blocksAllowed, batchFollows, receiverSetupOrder, senderSetupOrder, sessionOrder, batchOrder, endOrder}
-use Rattle.rules.specs.Orders.{startOrder, correctOrder, answerOrder, beforeCheck, verifyOrder}
+use Rattle.rules.specs.Orders.{startOrder, correctOrder, answerOrder, beforeCheck, verifyOrder, headRight}
 use Rattle.rules.proofs.Allowed.{batch-follows}
 use Rattle.rules.proofs.Fits.{start-fits, correct-fits, answer-fits, verify-fits}
 use Rattle.setup.proofs.Answers.{receiver-fits, sender-fits}
 use Rattle.batchfile.specs.declared.FileHead.{FileHead}
 use Rattle.batchfile.specs.File.{contentsRight, bodyOf, headOf, readAnswer, Taken}
-use Rattle.batchfile.proofs.Reading.{values-next}
+use Rattle.batchfile.proofs.Reading.{head-next, values-next, head-cases}
 use Rattle.batchfile.proofs.Taken.{taken-tells, setup-long, longest}
-use Rattle.theorems.proofs.Demand2.{given-pad}
+use Rattle.theorems.specs.Demand2.{Ready}
+use Rattle.theorems.proofs.Demand2.{given-pad, start-allowed, correct-allowed}
 
 -- ---- the sizes: a step that is done was given ranges of paper 01's lengths
 
@@ -90,16 +92,17 @@ module _ (r : Record) (batch : ℕ) where
   least-correct siblings delta correction table eight done =
       correct-fits r batch 1 siblings delta correction table (ap isDone done) .correction-long ∙ ap (λ (k : ℕ). correctionLength k 1) eight
 
--- a file that the reader takes: paper 02, note 1, in numbers
+-- a file that the reader takes: paper 02, notes 1 and 3, in numbers
 pub file-sizes : (file : Range) → Taken file
-    → (length (bodyOf file 2) ≡ 6) × ((length (bodyOf file 1) ≡ 0) ⊎ (length (bodyOf file 1) ≡ 8192))
+    → ((length (bodyOf file 2) ≡ 10) ⊎ (length (bodyOf file 2) ≡ 6)) × ((length (bodyOf file 1) ≡ 0) ⊎ (length (bodyOf file 1) ≡ 8192))
     × (length (bodyOf file 3) ≡ (128 / headOf file .width - 1) * (8 * (headOf file .blocks + 1)))
     × (length (bodyOf file 4) ≡ 8)
     × (length (bodyOf file 5) ≡ 1032)
-    × (length file ≤ 25558)
+    × (length file ≤ 25562)
 file-sizes file taken =
     let told = taken-tells file taken in
-    (told .head-long, setup-long file taken, told .values .correction-long, told .values .key-long, told .values .check-long, longest file taken)
+    let head = head-cases (λ (n : ℕ). (n ≡ 10) ⊎ (n ≡ 6)) (inl refl) (inr refl) (length (bodyOf file 2)) (told .head-right) in
+    (head, setup-long file taken, told .values .correction-long, told .values .key-long, told .values .check-long, longest file taken)
 
 -- ---- refusals
 
@@ -117,8 +120,8 @@ unfolding widthAllowed firstOf
 width-three-given roots pads message delta siblings = (refl, refl, refl)
 
 module _ (r : Record) (batch : ℕ) (rest : Order) (allowed : widthAllowed (r .width) ≡ true) (ready : r .stage ≡ stageReady) where
-  -- last 4,294,967,295: each start gets 3
-  pub last-of-all : (blocks : ℕ) → r .last ≡ 4294967295 → batch < 2 ^ 32 → firstOf (batchOrder r batch blocks ++ rest) ≡ Batch
+  -- last 2^64 - 1, to which paper 02, note 3 moves the case at the highest number: each start gets 3
+  pub last-of-all : (blocks : ℕ) → r .last ≡ 18446744073709551615 → batch < 2 ^ 64 → firstOf (batchOrder r batch blocks ++ rest) ≡ Batch
   last-of-all blocks e h =
       refused-at ((widthAllowed (r .width), Width) ∷ (eqb (r .stage) stageReady, Stage) ∷ []) ((blocksAllowed blocks, Blocks) ∷ rest)
       (batchFollows (r .last) batch) Batch (allowed, (eq-eqb _ _ ready, tt))
@@ -137,7 +140,17 @@ module _ (r : Record) (batch : ℕ) (rest : Order) (allowed : widthAllowed (r .w
           refused-at ((widthAllowed (r .width), Width) ∷ (eqb (r .stage) stageReady, Stage) ∷ (batchFollows (r .last) batch, Batch) ∷ []) rest
           (blocksAllowed blocks) Blocks (allowed, (eq-eqb _ _ ready, (batch-follows (r .last) batch next, tt))) e
 
--- and at the end, on a record that holds them
+-- last 2^32 - 1, paper 01's highest: the next number starts, on both sides
+pub past-32-bits : (r : Record) (width blocks : ℕ) → Ready r width → widthAllowed width ≡ true → r .last ≡ 4294967295 → 1 ≤ blocks → blocks ≤ 15
+    → (firstOf (startOrder r 4294967296 blocks (rootsLength width) (columnLength blocks) (tableLength blocks) (correctionLength width blocks)) ≡ Done)
+    × (firstOf (correctOrder r 4294967296 blocks siblingsLength deltaLength (correctionLength width blocks) (tableLength blocks)) ≡ Done)
+past-32-bits r width blocks ready allowed e low high =
+    let next : r .last < 4294967296 = omega (arith, e) in (
+      start-allowed r width 4294967296 blocks _ _ _ _ ready allowed next low high refl refl refl refl,
+      correct-allowed r width 4294967296 blocks _ _ _ _ ready allowed next low high refl refl refl refl,
+    )
+
+-- P 0 or 16 at the end, on a record that holds them
 pub blocks-outside-end : (r : Record) (rest : Order) → widthAllowed (r .width) ≡ true → r .stage ≡ stageOpen → 0 < r .last
     → (r .blocks ≡ 0) ⊎ (r .blocks ≡ 16) → firstOf (endOrder r ++ rest) ≡ Blocks
 blocks-outside-end r rest allowed isOpen some which =
@@ -148,12 +161,25 @@ blocks-outside-end r rest allowed isOpen some which =
     outside (inl e) = ap blocksAllowed e
     outside (inr e) = ap blocksAllowed e
 
--- the same of a file whose contents are right, and whose head has 6 bytes: width 3, 1
-module _ (file : Range) (right : contentsRight file ≡ true) (six : length (bodyOf file 2) ≡ 6) where
+-- a file whose contents are right, and whose head has neither length: 8, whatever the head holds
+pub file-head-outside : (file : Range) → contentsRight file ≡ true → length (bodyOf file 2) ≢ 10 → length (bodyOf file 2) ≢ 6 → readAnswer file ≡ Body
+file-head-outside file right not-long not-short =
+    let n : ℕ = length (bodyOf file 2) in
+    head-next file right (ap₂ _||_ (ne-eqb n 10 not-long) (ne-eqb n 6 not-short))
+
+-- and one whose head has one of them: width 3, 1
+module _ (file : Range) (right : contentsRight file ≡ true) (which : (length (bodyOf file 2) ≡ 10) ⊎ (length (bodyOf file 2) ≡ 6)) where
+  head-right : headRight (length (bodyOf file 2)) ≡ true
+  head-right = here which
+    where
+      here : (length (bodyOf file 2) ≡ 10) ⊎ (length (bodyOf file 2) ≡ 6) → headRight (length (bodyOf file 2)) ≡ true
+      here (inl e) = ap headRight e
+      here (inr e) = ap headRight e
+
   pub file-width-three : headOf file .width ≡ 3 → readAnswer file ≡ Width
   unfolding widthAllowed
   file-width-three three =
-      values-next file right (eq-eqb (length (bodyOf file 2)) 6 six)
+      values-next file right head-right
       ∙ refused-at [] _ (widthAllowed (headOf file .width)) Width tt (ap widthAllowed three)
 
   -- P 0 or 16: 4
@@ -161,7 +187,7 @@ module _ (file : Range) (right : contentsRight file ≡ true) (six : length (bod
       → readAnswer file ≡ Blocks
   file-blocks-outside allowed some which =
       let h : FileHead = headOf file in
-      values-next file right (eq-eqb (length (bodyOf file 2)) 6 six)
+      values-next file right head-right
       ∙ refused-at ((widthAllowed (h .width), Width) ∷ (ltb 0 (h .batch), Batch) ∷ []) _ (blocksAllowed (h .blocks)) Blocks (allowed, (lt-ltb 0 (h .batch) some, tt)) (outside which)
     where
       outside : (headOf file .blocks ≡ 0) ⊎ (headOf file .blocks ≡ 16) → blocksAllowed (headOf file .blocks) ≡ false

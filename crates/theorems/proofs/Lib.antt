@@ -5,6 +5,7 @@ pub mod Batch
 pub mod Demand1
 pub mod Demand3
 pub mod Demand2
+pub mod OldBatches
 pub mod Ties
 pub mod Edges
 pub mod Kept

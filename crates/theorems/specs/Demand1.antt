@@ -47,7 +47,7 @@ pub data Call : List ℕ → Answer → Lent → Lent → Type 0 where
   sender-verify : {r r′ : Record} {key : ℕ} {table delta message pads pads′ : Range} {answer : Answer}
       → SenderVerify r key table delta message pads answer r′ pads′
       → Call (1 ∷ 2 ∷ 3 ∷ 4 ∷ 5 ∷ 6 ∷ []) answer (session r (pads ∷ [])) (session r′ (pads′ ∷ []))
-  -- paper 02, note 1: 7; 8 for a head not 6 bytes long; 1, 3 and 4 on the head; last 8. It is lent nothing to write
+  -- paper 02, notes 1 and 3: 7; 8 for a head of neither length; 1, 3 and 4 on the head; last 8. It is lent nothing to write
   read-file : {file : Range} {head : FileHead} {places : Places} {answer : Answer} → ReadFile file answer head places
       → Call (7 ∷ 8 ∷ 1 ∷ 3 ∷ 4 ∷ 8 ∷ []) answer (ranges []) (ranges [])
 

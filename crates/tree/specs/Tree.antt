@@ -5,7 +5,7 @@ use lib.ListN.{getD}
 use Rattle.words.specs.Bytes.{Range, part, tabulate}
 use Rattle.words.specs.Xor.{_⊕_}
 use Rattle.chacha20.specs.ChaCha.{blockOf}
-use Rattle.tree.specs.Nonce.{nonceOf}
+use Rattle.tree.specs.Nonce.{nonceOf, oldNonce}
 
 -- use 0, batch 0, counter 0 gives the children
 unfoldable pub childrenOf : Range → Range
@@ -28,3 +28,7 @@ totalOf node level side = tabulate 32 (λ j. sumBelow level node 0 (λ y m. getD
 -- use 1 with the batch number and counters 0, 1 gives a leaf's stream F(y), cut to L bytes: its byte j, 64 of them to a counter
 abbrev pub streamByte : (batch j : ℕ) (leaf : Range) → ℕ
 streamByte batch j leaf = getD (blockOf leaf (j / 64) (nonceOf 1 batch)) (j % 64) 0
+
+-- and paper 01's own, which paper 02, note 3 leaves to each old batch
+abbrev pub oldStreamByte : (batch j : ℕ) (leaf : Range) → ℕ
+oldStreamByte batch j leaf = getD (blockOf leaf (j / 64) (oldNonce 1 batch)) (j % 64) 0

@@ -12,16 +12,17 @@ ghost use Rattle.tree.specs.Streams.{blockWord, wordOf};
 
 // What a leaf's stream is drawn by: the number of the batch.
 pub struct Stream {
-    pub batch: u32,
+    pub batch: u64,
 }
 
 // The nonce of a use number and a batch number.
-pub fn nonce(purpose: u32, batch: u32) -> [u8; 12]
+pub fn nonce(purpose: u32, batch: u64) -> [u8; 12]
     ensures { λ r. ⌜ r ≡ nonceOf purpose batch ⌝ }
 {
-    let p = words::bytes32(purpose);
-    let b = words::bytes32(batch);
-    [p[0], p[1], p[2], p[3], b[0], b[1], b[2], b[3], 0, 0, 0, 0]
+    let mut nonce = [0u8; 12];
+    words::store32(&mut nonce, 0, purpose);
+    words::store64(&mut nonce, 4, batch);
+    nonce
 }
 
 // The four nodes at a place of s: in four blocks the left children stand at 0, the right ones at 32.

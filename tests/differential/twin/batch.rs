@@ -47,7 +47,7 @@ fn sender_leaves(width: usize, d: usize, siblings: &[u8]) -> Nodes {
 }
 
 /// The pairs of a leaf's number y and its stream F(y).
-fn streams(leaves: &Nodes, batch: u32, length: usize) -> Streams {
+fn streams(leaves: &Nodes, batch: u64, length: usize) -> Streams {
     let stream = |node| {
         let halves = [0, 1].map(|counter| chacha20::block(node, counter, &chacha20::nonce(1, batch)));
         halves.concat()[..length].to_vec()
@@ -77,7 +77,7 @@ fn sender_column(tree: &Streams, length: usize, d: usize, b: usize) -> Vec<u8> {
 // What the steps write.
 
 /// The choices, the receiver's table and the correction.
-fn receiver_batch(width: usize, roots: &[u8], batch: u32, length: usize) -> Vec<Vec<u8>> {
+fn receiver_batch(width: usize, roots: &[u8], batch: u64, length: usize) -> Vec<Vec<u8>> {
     let (mut choices, mut table, mut correction) = (vec![], vec![], vec![]);
     for i in 0..sizes::trees_of(width) {
         let tree = streams(&receiver_leaves(width, node_at(roots, i)), batch, length);
@@ -93,7 +93,7 @@ fn receiver_batch(width: usize, roots: &[u8], batch: u32, length: usize) -> Vec<
     vec![choices, table, correction]
 }
 
-fn sender_table(width: usize, siblings: &[u8], delta: &[u8], batch: u32, length: usize, correction: &[u8]) -> Vec<u8> {
+fn sender_table(width: usize, siblings: &[u8], delta: &[u8], batch: u64, length: usize, correction: &[u8]) -> Vec<u8> {
     let mut out = vec![];
     for i in 0..sizes::trees_of(width) {
         let d = delta_of(width, delta, i);
@@ -124,21 +124,21 @@ fn rows(width: usize, blocks: usize, table: &[u8]) -> Vec<Vec<u8>> {
     (0..sizes::transfers(width, blocks)).map(|j| row(width, table, length, j)).collect()
 }
 
-fn pad(batch: u32, j: usize, value: &[u8]) -> [u8; 32] {
+fn pad(batch: u64, j: usize, value: &[u8]) -> [u8; 32] {
     let mut hashed = b"PADS".to_vec();
-    hashed.extend(u64::from(batch).to_le_bytes());
+    hashed.extend(batch.to_le_bytes());
     hashed.extend((j as u32).to_le_bytes());
     hashed.extend(value);
     sha256::digest(&hashed)
 }
 
-fn receiver_pads(width: usize, batch: u32, blocks: usize, table: &[u8]) -> Vec<u8> {
+fn receiver_pads(width: usize, batch: u64, blocks: usize, table: &[u8]) -> Vec<u8> {
     let rows = rows(width, blocks, table);
     rows.iter().enumerate().flat_map(|(j, value)| pad(batch, j, value)).collect()
 }
 
 /// Pad 0 before pad 1 in each row.
-fn sender_pads(width: usize, batch: u32, blocks: usize, table: &[u8], delta: &[u8]) -> Vec<u8> {
+fn sender_pads(width: usize, batch: u64, blocks: usize, table: &[u8], delta: &[u8]) -> Vec<u8> {
     let mut out = vec![];
     for (j, mut value) in rows(width, blocks, table).into_iter().enumerate() {
         out.extend(pad(batch, j, &value));
@@ -235,7 +235,7 @@ fn refusal(record: Record, stage: u32, batch_right: bool, blocks: u32, lengths_r
 }
 
 /// The answer of a step that opens a batch.
-fn opening(record: Record, batch: u32, blocks: u32, lengths: impl Fn(usize, usize) -> [usize; 4], given: [&[u8]; 4]) -> u32 {
+fn opening(record: Record, batch: u64, blocks: u32, lengths: impl Fn(usize, usize) -> [usize; 4], given: [&[u8]; 4]) -> u32 {
     let right = || given.map(<[u8]>::len) == lengths(record.width as usize, blocks as usize);
     refusal(record, READY, batch != 0 && batch > record.last, blocks, right)
 }
@@ -247,7 +247,7 @@ fn ending(record: Record, lengths: impl Fn(usize, usize) -> [usize; 4], given: [
 }
 
 /// The record in a batch.
-fn opened(record: Record, batch: u32, blocks: u32) -> Record {
+fn opened(record: Record, batch: u64, blocks: u32) -> Record {
     Record {
         last: batch,
         blocks,
@@ -284,7 +284,7 @@ pub fn open_session(record: Record, width: u32) -> Given {
     )
 }
 
-pub fn receiver_start(record: Record, batch: u32, blocks: u32, ranges: [&[u8]; 4]) -> Given {
+pub fn receiver_start(record: Record, batch: u64, blocks: u32, ranges: [&[u8]; 4]) -> Given {
     let answer = opening(record, batch, blocks, start_lengths, ranges);
     if answer != DONE {
         return (answer, record, vec![]);
@@ -294,7 +294,7 @@ pub fn receiver_start(record: Record, batch: u32, blocks: u32, ranges: [&[u8]; 4
     (DONE, opened(record, batch, blocks), written)
 }
 
-pub fn sender_correct(record: Record, batch: u32, blocks: u32, ranges: [&[u8]; 4]) -> Given {
+pub fn sender_correct(record: Record, batch: u64, blocks: u32, ranges: [&[u8]; 4]) -> Given {
     let answer = opening(record, batch, blocks, correct_lengths, ranges);
     if answer != DONE {
         return (answer, record, vec![]);

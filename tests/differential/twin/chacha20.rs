@@ -1,4 +1,4 @@
-//! The ChaCha20 block function, from RFC 8439 section 2, and paper 01's nonces.
+//! The ChaCha20 block function, from RFC 8439 section 2, and the nonces of paper 01 and of paper 02, note 3.
 
 /// The four words of "expand 32-byte k": RFC 8439, 2.3.
 const HEAD: [u32; 4] = [0x61707865, 0x3320646e, 0x79622d32, 0x6b206574];
@@ -41,10 +41,10 @@ pub fn block(key: &[u8; 32], counter: u32, nonce: &[u8; 12]) -> [u8; 64] {
     out
 }
 
-/// Paper 01, 'Trees and streams'.
-pub fn nonce(kind: u32, batch: u32) -> [u8; 12] {
+/// Paper 01, 'Trees and streams'. Its last 4 bytes, zero there, hold the upper half of the batch number: paper 02, note 3.
+pub fn nonce(kind: u32, batch: u64) -> [u8; 12] {
     let mut out = [0; 12];
     out[..4].copy_from_slice(&kind.to_le_bytes());
-    out[4..8].copy_from_slice(&batch.to_le_bytes());
+    out[4..].copy_from_slice(&batch.to_le_bytes());
     out
 }

@@ -1,4 +1,4 @@
-//! A batch on file, for any bytes: paper 02, note 1.
+//! A batch on file, for any bytes: paper 02, notes 1 and 3.
 //!
 //! A file has its contents, then its bodies: of the kinds in order, of which the setup may be absent. The names are those of setup.rs.
 
@@ -26,7 +26,11 @@ pub struct Entry {
 
 // Writing, also what isn't to be read.
 
-pub fn head_body(width: u8, blocks: u8, batch: u32) -> Vec<u8> {
+pub fn head_body(width: u8, blocks: u8, batch: u64) -> Vec<u8> {
+    [&[width, blocks][..], &batch.to_le_bytes()].concat()
+}
+
+pub fn short_head_body(width: u8, blocks: u8, batch: u32) -> Vec<u8> {
     [&[width, blocks][..], &batch.to_le_bytes()].concat()
 }
 
@@ -81,7 +85,18 @@ fn contents_right(entries: &[Entry], length: usize) -> bool {
     end == length as u64
 }
 
-/// The length that a body has, by its kind.
+/// Whether a head of this length is looked at.
+pub fn head_length_right(length: usize) -> bool {
+    [sizes::head_length(), sizes::short_head_length()].contains(&length)
+}
+
+/// The values of a head of either length.
+fn head_in(head: &[u8]) -> (u32, u32, u64) {
+    let batch = head[2..].iter().rev().fold(0, |value, byte| value << 8 | u64::from(*byte));
+    (u32::from(head[0]), u32::from(head[1]), batch)
+}
+
+/// The length that a body has, by its kind; of a head the longer one.
 pub fn body_length(width: usize, blocks: usize, kind: u32) -> usize {
     match kind {
         SETUP => sizes::setup_message_length(width),
@@ -94,11 +109,11 @@ pub fn body_length(width: usize, blocks: usize, kind: u32) -> usize {
 }
 
 /// The answer that the head and the other bodies get, and the head's values.
-fn answer_to(entries: &[Entry], head: &[u8]) -> (u32, u32, u32, u32) {
-    if head.len() != sizes::head_length() {
+fn answer_to(entries: &[Entry], head: &[u8]) -> (u32, u32, u32, u64) {
+    if !head_length_right(head.len()) {
         return (BODY, 0, 0, 0);
     }
-    let (width, blocks, batch) = (u32::from(head[0]), u32::from(head[1]), number(head, 2));
+    let (width, blocks, batch) = head_in(head);
     let right = |entry: &Entry| entry.length as usize == body_length(width as usize, blocks as usize, entry.kind);
     let answer = if !WIDTHS.contains(&width) {
         WIDTH
@@ -106,7 +121,7 @@ fn answer_to(entries: &[Entry], head: &[u8]) -> (u32, u32, u32, u32) {
         BATCH
     } else if !(1..=15).contains(&blocks) {
         BLOCKS
-    } else if !entries.iter().all(right) {
+    } else if !entries.iter().filter(|entry| entry.kind != HEAD).all(right) {
         BODY
     } else {
         DONE
@@ -131,7 +146,7 @@ pub fn read(file: &[u8]) -> File {
         answer,
         width,
         blocks,
-        batch: u64::from(batch),
+        batch,
         setup: place(SETUP).unwrap_or(head),
         head,
         correction,

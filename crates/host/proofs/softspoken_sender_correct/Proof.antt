@@ -2,7 +2,7 @@
 use mathlib.Core.List.{[], _∷_}
 use mathlib.Core.Path.{refl}
 use base.Logic.{id⊢}
-use mir.Syntax.{w32}
+use mir.Syntax.{w32, w64}
 use Rattle.host.proofs.Params.{number, shared, mutable}
 use Rattle.host.proofs.Thin.{thin-meets}
 use Rattle.host.proofs.numbered.sender_correct as twin
@@ -16,7 +16,7 @@ use Rattle.host.proofs.softspoken_sender_correct.Statement.{statement}
 pub softspoken-sender-correct-spec : {M : Type 1} → statement M
 unfolding step-code.routine
 softspoken-sender-correct-spec 𝓤 H 𝓜 𝓖 𝓡 =
-    thin-meets 𝓤 H 𝓜 𝓖 𝓡 (shared ∷ shared ∷ number w32 ∷ number w32 ∷ shared ∷ mutable ∷ [])
+    thin-meets 𝓤 H 𝓜 𝓖 𝓡 (shared ∷ shared ∷ number w64 ∷ number w32 ∷ shared ∷ mutable ∷ [])
     (λ κs a. step.clauses 𝓤 H (𝓖 .A) (𝓜 .mem) (𝓡 .run) κs a .ensures tt)
     (λ κs a. twin.clauses 𝓤 H (𝓖 .A) (𝓜 .mem) (𝓡 .run) κs a .ensures tt)
     (λ κ κs x a r ws. id⊢ 𝓤 _)

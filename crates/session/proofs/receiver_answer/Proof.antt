@@ -45,12 +45,9 @@ write-message-requires c κs =
 cast-receiver-pads : tie.Need-cast-receiver-pads
 cast-receiver-pads c = search needs
 
-cast-receiver-pads-2 : tie.Need-cast-receiver-pads-2
-cast-receiver-pads-2 c = search needs
-
 receiver-pads-requires : tie.Need-receiver-pads-requires
 receiver-pads-requires c κs =
-    let h = fits (c .before .before .before .before .before .before .before) in
+    let h = fits (c .before .before .before .before .before .before) in
     (h .few, h .table-long, h .pads-long)
 
 without-batch-requires : tie.Need-without-batch-requires
@@ -64,14 +61,14 @@ same-length-2 c = search needs
 
 returns : tie.Need-returns
 returns c =
-    let t = c .before .before .before .before .before .before .before .before .before .before .before in
+    let t = c .before .before .before .before .before .before .before .before .before .before in
     let a = t .before .before .before .before .before .before .before .args in
     let x = t .before .before .receiver-answer in
     let told : ℕ → List ℕ = λ len. checkMessage columns len (a .key) (now (a .choices)) (now (a .table)) in
     record {
       answered = x .ensures;
       recorded = c .without-batch .ensures ∙ sym (new-when (x .result) (withoutBatch (a .r)) (a .r) (done t));
-      told = c .before .before .before .before .before .before .before .before .before .write-message .ensures ∙ ap told (fits t .choices-long) ∙ sym (new-when (x .result) (told (columnLength (a .r .blocks))) (now (a .message)) (done t));
+      told = c .before .before .before .before .before .before .before .before .write-message .ensures ∙ ap told (fits t .choices-long) ∙ sym (new-when (x .result) (told (columnLength (a .r .blocks))) (now (a .message)) (done t));
       padded = c .before .before .before .receiver-pads .ensures ∙ sym (new-when (x .result) (receiverPads columns (a .r .blocks) (a .r .last) (now (a .table))) (now (a .pads)) (done t));
     }
 
@@ -95,7 +92,6 @@ receiver-answer-spec =
     is-done-requires
     write-message-requires
     cast-receiver-pads
-    cast-receiver-pads-2
     receiver-pads-requires
     without-batch-requires
     same-length

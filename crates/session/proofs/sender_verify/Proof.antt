@@ -59,12 +59,9 @@ accepts-requires c κs =
 cast-sender-pads : tie.Need-cast-sender-pads
 cast-sender-pads c = search needs
 
-cast-sender-pads-2 : tie.Need-cast-sender-pads-2
-cast-sender-pads-2 c = search needs
-
 sender-pads-requires : tie.Need-sender-pads-requires
 sender-pads-requires c κs =
-    let h = fits (c .before .before .before .before .before .before) in
+    let h = fits (c .before .before .before .before .before) in
     (h .few, h .table-long, h .delta-long, h .pads-long)
 
 without-batch-requires : tie.Need-without-batch-requires
@@ -82,11 +79,11 @@ decides s len = accepts columns len (s .args .key) (now (s .args .table)) (now (
 
 returns : tie.Need-returns
 returns c =
-    let t = c .before .before .before .before .before .before .before .before .before .before in
+    let t = c .before .before .before .before .before .before .before .before .before in
     let s = t .before .before .before .before .before .before .before in
     let a = s .args in
     let x = t .before .before .sender-verify in
-    let accepted = ap (decides s) (sym (c .before .before .before .before .before .before .before .before .before .column-length .ensures)) ∙ sym (c .before .before .before .before .before .before .before .before .accepts .ensures) ∙ c .before .before .before .before .before .before .before .if2 .taken in
+    let accepted = ap (decides s) (sym (c .before .before .before .before .before .before .before .before .column-length .ensures)) ∙ sym (c .before .before .before .before .before .before .before .accepts .ensures) ∙ c .before .before .before .before .before .before .if2 .taken in
     record {
       answered = x .ensures ∙ done-when (asked s) (holds t)
           ∙ sym (last-decides (asked s) (decides s (columnLength (a .r .blocks))) Check (holds t) ∙ ap (λ (b : Bool). cond b Done Check) accepted);
@@ -128,7 +125,6 @@ sender-verify-spec =
     column-length-requires
     accepts-requires
     cast-sender-pads
-    cast-sender-pads-2
     sender-pads-requires
     without-batch-requires
     closed-requires

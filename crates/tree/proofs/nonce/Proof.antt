@@ -1,61 +1,36 @@
--- `tree::nonce` meets its contract. Assumes nothing.
-use lib.ListN.{getD}
+-- `tree::nonce` meets its contract: the two numbers fill it. Assumes nothing.
+use mathlib.Core.Path.{ap, _∙_}
+use mathlib.Core.List.{List}
 use Prim.Native.Nat.{ℕ}
-use mathlib.Core.List.{List, [], _∷_}
-use mathlib.Core.Path.{ap₂}
 use borrow.Author.Needs.{needs}
+use Rattle.words.specs.Bytes.{bytes, put}
 use Rattle.tree.proofs.nonce.Statement.{statement}
 use Rattle.tree.proofs.nonce.Tie as tie
 
-bytes32-requires : tie.Need-bytes32-requires
-bytes32-requires c κs = search needs
+slice-aggregate-store32 : tie.Need-slice-aggregate-store32
+slice-aggregate-store32 c = search needs
 
-bytes32-requires-2 : tie.Need-bytes32-requires-2
-bytes32-requires-2 c κs = search needs
+store32-requires : tie.Need-store32-requires
+store32-requires c κs = search needs
 
-array-read-t8 : tie.Need-array-read-t8
-array-read-t8 c = search needs
+slice-aggregate-store64 : tie.Need-slice-aggregate-store64
+slice-aggregate-store64 c = search needs
 
-array-read-t11 : tie.Need-array-read-t11
-array-read-t11 c = search needs
-
-array-read-t14 : tie.Need-array-read-t14
-array-read-t14 c = search needs
-
-array-read-t17 : tie.Need-array-read-t17
-array-read-t17 c = search needs
-
-array-read-t20 : tie.Need-array-read-t20
-array-read-t20 c = search needs
-
-array-read-t23 : tie.Need-array-read-t23
-array-read-t23 c = search needs
-
-array-read-t26 : tie.Need-array-read-t26
-array-read-t26 c = search needs
-
-array-read-t29 : tie.Need-array-read-t29
-array-read-t29 c = search needs
+store64-requires : tie.Need-store64-requires
+store64-requires c κs = search needs
 
 returns : tie.Need-returns
+unfolding put
 returns c =
-    ap₂
-    (λ (p b : List ℕ).
-    getD p 0 0 ∷ getD p 1 0 ∷ getD p 2 0 ∷ getD p 3 0 ∷ getD b 0 0 ∷ getD b 1 0 ∷ getD b 2 0 ∷ getD b 3 0 ∷ 0 ∷ 0 ∷ 0 ∷ 0 ∷ [])
-    (c .before .bytes32 .ensures) (c .bytes322 .ensures)
+    let uses = c .before .before .before .before in
+    c .before .store64 .ensures ∙ ap (λ (d : List ℕ). put d 4 (bytes 8 (uses .before .before .args .batch))) (uses .store32 .ensures)
 
 pub nonce-spec : {M : Type 1} → statement M
 nonce-spec =
     tie.close
     (tie.spec
-    bytes32-requires
-    bytes32-requires-2
-    array-read-t8
-    array-read-t11
-    array-read-t14
-    array-read-t17
-    array-read-t20
-    array-read-t23
-    array-read-t26
-    array-read-t29
+    slice-aggregate-store32
+    store32-requires
+    slice-aggregate-store64
+    store64-requires
     returns)
