@@ -5,7 +5,7 @@ use Prim.Native.Nat.{ℕ, _^_, _<_}
 use Rattle.words.specs.Bytes.{Range}
 use Rattle.sizes.specs.Sizes.{columns, treesOf, columnLength}
 use Rattle.tree.specs.Tree.{streamByte, oldStreamByte}
-use Rattle.tree.proofs.Nonces.{old-stream}
+use Rattle.tree.proofs.Streams.{old-stream}
 use Rattle.columns.specs.Columns.{choicesOf, receiverTable, correctionOf, treeCorrection, senderTable}
 use Rattle.pads.specs.Pads.{receiverPads, senderPads}
 use Rattle.answer.specs.declared.Answer.{Answer}

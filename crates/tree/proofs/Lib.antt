@@ -1,5 +1,4 @@
 -- The laws that other crates cite.
-pub mod Nonces
 pub mod Sums
 pub mod Path
 pub mod Columns

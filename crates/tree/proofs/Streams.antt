@@ -1,7 +1,7 @@
 -- One lane of what a walk of four trees adds, as bytes: the columns of one tree. Assumes nothing.
 use mathlib.Core.Path.{_≡_, sym, ap, ap₂, _∙_}
 use mathlib.Core.List.{List}
-use Prim.Native.Nat.{ℕ, _+_, _*_, _/_, _%_, _<_}
+use Prim.Native.Nat.{ℕ, _+_, _*_, _/_, _%_, _^_, _<_}
 use native.Mathlib.Omega.{arith}
 use lib.Arith.{digits-div, digits-mod}
 use lib.ListN.{getD}
@@ -12,8 +12,9 @@ use Rattle.words.proofs.Numbers.{bytes-scale, bytes-lt}
 use Rattle.chacha20.specs.ChaCha.{blockWords, blockOf}
 use Rattle.chacha20_four.specs.FourStates.{keyIn}
 use Rattle.chacha20.proofs.BlockLaws.{block-byte}
+use Rattle.nonces.proofs.Nonces.{old-nonce}
 use Rattle.tree.specs.declared.Stream.{Stream}
-use Rattle.tree.specs.Tree.{sumBelow, streamByte}
+use Rattle.tree.specs.Tree.{sumBelow, streamByte, oldStreamByte}
 use Rattle.tree.specs.Columns.{uAt, receiverAt}
 use Rattle.tree.specs.WalkWords.{uWord, columnWord}
 use Rattle.tree.specs.Streams.{blockWord, byteOf, wordOf}
@@ -38,6 +39,12 @@ pub stream-lt : (batch x : ℕ) (leaf : List ℕ) → streamByte batch x leaf < 
 stream-lt batch x leaf =
     let stream : Stream = record { batch = batch } in
     rw (stream-byte stream x leaf) (bytes-lt 4 (wordOf stream (x / 4) leaf) (x % 4))
+
+-- an old batch, one below 2^32, has its old streams: the same function of place and leaf. Paper 02, note 3
+pub old-stream : (batch : ℕ) → batch < 2 ^ 32 → streamByte batch ≡ oldStreamByte batch
+old-stream batch old =
+    let by : List ℕ → ℕ → List ℕ → ℕ = λ nonce j leaf. getD (blockOf leaf (j / 64) nonce) (j % 64) 0 in
+    ap by (old-nonce 1 batch old)
 
 -- byte x of the sum of the streams below the node in lane l
 pub u-lane : (stream : Stream) (levels : ℕ) (nodes : List ℕ) (l x : ℕ) → l < 4

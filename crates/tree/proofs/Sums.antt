@@ -13,7 +13,7 @@ use Rattle.words.specs.Bits.{bitOf}
 use Rattle.words.proofs.Xor.{bit-lt, bit-xor, bits-scale, xor-swap, scale-xor}
 use Rattle.words.proofs.Numbers.{bytes-xor}
 use Rattle.chacha20.proofs.BlockLaws.{blockOf-length}
-use Rattle.tree.specs.Nonce.{nonceOf}
+use Rattle.nonces.specs.Nonce.{nonceOf}
 use Rattle.tree.specs.Tree.{childrenOf, childOf, sumBelow}
 use Rattle.words.specs.Xor.{_⊕_}
 

@@ -18,7 +18,7 @@ use Rattle.words.proofs.Concat.{part-at, part-length}
 use Rattle.words.proofs.Lanes.{laned-at}
 use Rattle.words.proofs.LaneBytes.{laneBytes-length, laneBytes-at, lane-is}
 use Rattle.chacha20.specs.ChaCha.{blockWords}
-use Rattle.tree.specs.Nonce.{nonceOf}
+use Rattle.nonces.specs.Nonce.{nonceOf}
 use Rattle.chacha20_four.specs.FourStates.{keyIn, blocksOf}
 use Rattle.chacha20.proofs.BlockLaws.{block-byte}
 use Rattle.tree.specs.Tree.{childrenOf, childOf, sumBelow}

@@ -1,4 +1,3 @@
-pub mod Nonce
 pub mod Tree
 pub mod Path
 pub mod Columns

@@ -3,7 +3,7 @@ use mathlib.Core.List.{List}
 use Prim.Native.Nat.{ℕ, _/_, _%_}
 use lib.ListN.{getD}
 use Rattle.chacha20.specs.ChaCha.{blockWords}
-use Rattle.tree.specs.Nonce.{nonceOf}
+use Rattle.nonces.specs.Nonce.{nonceOf}
 use Rattle.tree.specs.declared.Stream.{Stream}
 use Rattle.tree.specs.Tree.{streamByte}
 

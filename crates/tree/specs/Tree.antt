@@ -5,7 +5,7 @@ use lib.ListN.{getD}
 use Rattle.words.specs.Bytes.{Range, part, tabulate}
 use Rattle.words.specs.Xor.{_⊕_}
 use Rattle.chacha20.specs.ChaCha.{blockOf}
-use Rattle.tree.specs.Nonce.{nonceOf, oldNonce}
+use Rattle.nonces.specs.Nonce.{nonceOf, oldNonce}
 
 -- use 0, batch 0, counter 0 gives the children
 unfoldable pub childrenOf : Range → Range

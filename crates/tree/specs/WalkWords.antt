@@ -4,7 +4,7 @@ use mathlib.Core.List.{List}
 use lib.ListN.{getD}
 use Rattle.words.specs.Bits.{bitOf}
 use Rattle.chacha20.specs.ChaCha.{blockWords}
-use Rattle.tree.specs.Nonce.{nonceOf}
+use Rattle.nonces.specs.Nonce.{nonceOf}
 use Rattle.chacha20_four.specs.FourStates.{keyIn}
 use Rattle.tree.specs.Tree.{sumBelow, childrenOf}
 

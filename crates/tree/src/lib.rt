@@ -6,23 +6,12 @@ ghost use Prim.Native.Nat.{_+_, _*_, _%_, _≤_, _<_};
 ghost use lib.ListN.{length, getD};
 ghost use Rattle.words.specs.Bytes.{part};
 ghost use Rattle.words.specs.Xor.{xorEach, xorPart};
-ghost use Rattle.tree.specs.Nonce.{nonceOf};
 ghost use Rattle.tree.specs.WalkWords.{totalWord, uWord, columnWord};
 ghost use Rattle.tree.specs.Streams.{blockWord, wordOf};
 
 // What a leaf's stream is drawn by: the number of the batch.
 pub struct Stream {
     pub batch: u64,
-}
-
-// The nonce of a use number and a batch number.
-pub fn nonce(purpose: u32, batch: u64) -> [u8; 12]
-    ensures { λ r. ⌜ r ≡ nonceOf purpose batch ⌝ }
-{
-    let mut nonce = [0u8; 12];
-    words::store32(&mut nonce, 0, purpose);
-    words::store64(&mut nonce, 4, batch);
-    nonce
 }
 
 // The four nodes at a place of s: in four blocks the left children stand at 0, the right ones at 32.
@@ -45,7 +34,7 @@ pub fn totals(nodes: &[u32; 32], levels: usize, t: &mut [u32])
     ensures { λ _. ⌜ now (t .exit) ≡ xorEach (now (t .entry)) (totalWord (now (nodes .entry))) ⌝ }
 {
     if levels > 0 {
-        let c = chacha20_four::block(nodes, 0, &nonce(0, 0));
+        let c = chacha20_four::block(nodes, 0, &nonces::nonce(0, 0));
         words::xor_words(&mut t[0..64], &c);
         totals(&nodes_at(&c, 0), levels - 1, &mut t[64..]);
         totals(&nodes_at(&c, 32), levels - 1, &mut t[64..]);
@@ -73,7 +62,7 @@ fn add_stream(stream: Stream, leaves: &[u32; 32], u: &mut [u32])
     requires { ⌜ (length (now u) % 64 ≡ 0) × (length (now u) ≤ 512) ⌝ }
     ensures { λ _. ⌜ now (u .exit) ≡ xorEach (now (u .entry)) (uWord (wordOf stream) 0 (now (leaves .entry))) ⌝ }
 {
-    add_blocks(&nonce(1, stream.batch), leaves, u);
+    add_blocks(&nonces::nonce(1, stream.batch), leaves, u);
 }
 
 // Adds u to column r of v.
@@ -97,7 +86,7 @@ pub fn walk(stream: Stream, levels: usize, nodes: &[u32; 32], u: &mut [u32], v: 
     if levels == 0 {
         add_stream(stream, nodes, u);
     } else {
-        let c = chacha20_four::block(nodes, 0, &nonce(0, 0));
+        let c = chacha20_four::block(nodes, 0, &nonces::nonce(0, 0));
         walk(stream, levels - 1, &nodes_at(&c, 0), u, v);
         add_column(v, levels - 1, u); // what u has so far goes when u is added again
         walk(stream, levels - 1, &nodes_at(&c, 32), u, v);

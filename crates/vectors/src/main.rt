@@ -85,7 +85,7 @@ fn nonce(p: &[u8]) {
     if p.len() != 12 {
         return;
     }
-    cases::print(&tree::nonce(words::load32(p, 0), words::load64(p, 4)));
+    cases::print(&nonces::nonce(words::load32(p, 0), words::load64(p, 4)));
 }
 
 // Where a range ends that starts at one place and whose length stands at another; no later than the payload. The `ensures` gives the

@@ -9,7 +9,7 @@ use borrow.Rule.Slice.PartMut.{putMid}
 use Rattle.words.proofs.Lists.{xorEach-none}
 use Rattle.words.proofs.Parts.{part-added, xorPart-length}
 use Rattle.chacha20_four.specs.FourStates.{blocksOf}
-use Rattle.tree.specs.Nonce.{nonceOf}
+use Rattle.nonces.specs.Nonce.{nonceOf}
 use Rattle.tree.proofs.WalkWords.{child-in, totals-added}
 use borrow.Fn.Kinds.{In}
 use borrow.Fn.PlainCycle.{Measures, is, falls, and}
@@ -17,7 +17,7 @@ use Rattle.tree.proofs.totals.Reads as totals
 use Rattle.tree.proofs.totals.Kinds as totals-kinds
 use Rattle.tree.proofs.+totals.Lts-totals as totals-lts
 use Rattle.chacha20_four.proofs.block.Reads as block-reads
-use Rattle.tree.proofs.nonce.Reads as nonce-reads
+use Rattle.nonces.proofs.nonce.Reads as nonce-reads
 use Rattle.tree.proofs.nodes_at.Reads as nodes-at-reads
 use Rattle.words.proofs.xor_words.Reads as xor-words-reads
 use Rattle.tree.proofs.+totals.{statement}

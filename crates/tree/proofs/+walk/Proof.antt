@@ -6,7 +6,7 @@ use native.Mathlib.Omega.{arith}
 use lib.ListN.{length}
 use borrow.Author.Needs.{needs}
 use Rattle.chacha20_four.specs.FourStates.{blocksOf}
-use Rattle.tree.specs.Nonce.{nonceOf}
+use Rattle.nonces.specs.Nonce.{nonceOf}
 use Rattle.tree.specs.Streams.{wordOf}
 use Rattle.tree.proofs.WalkWords.{child-in}
 use Rattle.tree.proofs.Telescope.{leaf-columns, column-fits, walked}
@@ -16,7 +16,7 @@ use Rattle.tree.proofs.walk.Reads as walk
 use Rattle.tree.proofs.walk.Kinds as walk-kinds
 use Rattle.tree.proofs.+walk.Lts-walk as walk-lts
 use Rattle.chacha20_four.proofs.block.Reads as block-reads
-use Rattle.tree.proofs.nonce.Reads as nonce-reads
+use Rattle.nonces.proofs.nonce.Reads as nonce-reads
 use Rattle.tree.proofs.add_column.Reads as add-column-reads
 use Rattle.tree.proofs.add_stream.Reads as add-stream-reads
 use Rattle.tree.proofs.nodes_at.Reads as nodes-at-reads

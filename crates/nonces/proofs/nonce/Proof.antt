@@ -1,11 +1,11 @@
--- `tree::nonce` meets its contract: the two numbers fill it. Assumes nothing.
+-- `nonces::nonce` meets its contract: the two numbers fill it. Assumes nothing.
 use mathlib.Core.Path.{ap, _∙_}
 use mathlib.Core.List.{List}
 use Prim.Native.Nat.{ℕ}
 use borrow.Author.Needs.{needs}
 use Rattle.words.specs.Bytes.{bytes, put}
-use Rattle.tree.proofs.nonce.Statement.{statement}
-use Rattle.tree.proofs.nonce.Tie as tie
+use Rattle.nonces.proofs.nonce.Statement.{statement}
+use Rattle.nonces.proofs.nonce.Tie as tie
 
 slice-aggregate-store32 : tie.Need-slice-aggregate-store32
 slice-aggregate-store32 c = search needs

@@ -1,27 +1,19 @@
 -- Nonces of batch numbers of 64 bits. Paper 02, note 3. Assumes nothing.
 use mathlib.Core.Path.{_≡_, sym, ap, _∙_}
 use mathlib.Core.List.{List, _++_}
-use Prim.Native.Nat.{ℕ, _/_, _%_, _^_, _<_}
+use Prim.Native.Nat.{ℕ, _/_, _^_, _<_}
 use native.Mathlib.Nat.{mod-eq-of-lt}
 use native.Mathlib.Omega.{arith}
-use lib.ListN.{getD, drop}
+use lib.ListN.{drop}
 use Rattle.words.specs.Bytes.{littleEndian, bytes}
 use Rattle.words.proofs.Numbers.{littleEndian-bytes, bytes-split}
-use Rattle.chacha20.specs.ChaCha.{blockOf}
-use Rattle.tree.specs.Nonce.{nonceOf, oldNonce}
-use Rattle.tree.specs.Tree.{streamByte, oldStreamByte}
+use Rattle.nonces.specs.Nonce.{nonceOf, oldNonce}
 
 -- an old batch, one below 2^32, has its old nonce
 pub old-nonce : (purpose batch : ℕ) → batch < 2 ^ 32 → nonceOf purpose batch ≡ oldNonce purpose batch
 old-nonce purpose batch old =
     let upper : batch / 256 ^ 4 ≡ 0 = omega arith in
     ap (λ (s : List ℕ). bytes 4 purpose ++ s) (bytes-split 4 4 batch ∙ ap (λ (x : ℕ). bytes 4 batch ++ bytes 4 x) upper)
-
--- and so its old streams: the same function of place and leaf
-pub old-stream : (batch : ℕ) → batch < 2 ^ 32 → streamByte batch ≡ oldStreamByte batch
-old-stream batch old =
-    let by : List ℕ → ℕ → List ℕ → ℕ = λ nonce j leaf. getD (blockOf leaf (j / 64) nonce) (j % 64) 0 in
-    ap by (old-nonce 1 batch old)
 
 -- two batches have two nonces
 pub nonces-differ : (purpose batch other : ℕ) → batch < 2 ^ 64 → other < 2 ^ 64 → nonceOf purpose batch ≡ nonceOf purpose other → batch ≡ other
