@@ -32,10 +32,10 @@
    The receiver wipes its roots, choices, table and pads, the sender its delta, siblings and table. To go on they make a
    new setup, with new base transfers.
 
-   SECRETS. Each range is marked 'secret' (this side tells it to nobody) or 'sent' (to or from the other side). Records,
-   widths, batch numbers, blocks, lengths, keys and answers are public. No branch and no address depends on a byte of
-   any range, but for one jump in softspoken_sender_verify, on its answer, and for the contents and the head of a file,
-   which softspoken_file_read looks at.
+   SECRETS. Each range is marked 'secret' (this side tells it to nobody) or 'sent' (to or from the other side). The
+   fields of a record, widths, batch numbers, blocks, lengths, keys and answers are public. No branch and no address
+   depends on a byte of any range, but for one jump in softspoken_sender_verify, on its answer, and for the contents and
+   the head of a file, which softspoken_file_read looks at.
 
    THE LINE. The library carries nothing. Beside the three messages the host carries batch number, blocks and key. They
    must be the same on both sides, as must the width. We advise 8 bytes for the batch number, 4 for the blocks and 8 for

@@ -63,8 +63,14 @@ static void setups(uint32_t width) {
     expect_secret("sender setup", RANGE(siblings));
 }
 
-/* Of a record: what follows its stage means nothing. */
-#define RECORD_BYTES (offsetof(struct softspoken_record, stage) + sizeof(uint32_t))
+/* Opens a session. What follows a record's stage means nothing, and opening may leave there what a register held, so it is set anew: no
+   later step may bring a secret to it. */
+static void open_record(struct softspoken_record *r, uint32_t width) {
+    const size_t fields = offsetof(struct softspoken_record, stage) + sizeof r->stage;
+    DONE("open", softspoken_open(r, width));
+    expect_public("open", r, fields);
+    memset((uint8_t *)r + fields, 0, sizeof *r - fields);
+}
 
 /* Both tables, the choices and the correction of a batch, and the records open. */
 static void begin(uint32_t width, uint32_t blocks, struct softspoken_record *receiver, struct softspoken_record *sender) {
@@ -74,16 +80,16 @@ static void begin(uint32_t width, uint32_t blocks, struct softspoken_record *rec
     memset(v, 0, table);
     memset(correction, 0, sent);
     memset(w, 0, table);
-    DONE("open", softspoken_open(receiver, width));
-    DONE("open", softspoken_open(sender, width));
+    open_record(receiver, width);
+    open_record(sender, width);
     DONE("receiver start", softspoken_receiver_start(receiver, roots, SOFTSPOKEN_ROOTS_BYTES(width), 1, blocks, choices, len, v, table,
                                                      correction, sent));
-    expect_public("receiver start", receiver, RECORD_BYTES);
+    expect_public("receiver start", receiver, sizeof *receiver);
     expect_secret("choices", choices, len);
     expect_secret("receiver's table", v, table);
     expect_secret("correction", correction, sent);
     DONE("sender correction", softspoken_sender_correct(sender, RANGE(siblings), RANGE(delta), 1, blocks, correction, sent, w, table));
-    expect_public("sender correction", sender, RECORD_BYTES);
+    expect_public("sender correction", sender, sizeof *sender);
     expect_secret("sender's table", w, table);
 }
 
@@ -93,7 +99,7 @@ static void answer(uint32_t blocks, struct softspoken_record *receiver) {
     memset(message, 0, sizeof message);
     memset(receiver_pads, 0, pads);
     DONE("receiver answer", softspoken_receiver_answer(receiver, key, choices, len, v, table, RANGE(message), receiver_pads, pads));
-    expect_public("receiver answer", receiver, RECORD_BYTES);
+    expect_public("receiver answer", receiver, sizeof *receiver);
     expect_secret("check message", RANGE(message));
     expect_secret("receiver's pads", receiver_pads, pads);
 }
@@ -110,12 +116,12 @@ static void verify(uint32_t blocks, const struct softspoken_record *open) {
         STEP("refused check", softspoken_sender_verify(&r, key, w, table, RANGE(delta), RANGE(message), sender_pads, pads),
              SOFTSPOKEN_ERR_CHECK, 1);
         message[at] ^= 1;
-        expect_public("refused check", &r, RECORD_BYTES);
+        expect_public("refused check", &r, sizeof r);
         expect_public("refused check", sender_pads, pads);
     }
     r = *open;
     STEP("sender verify", softspoken_sender_verify(&r, key, w, table, RANGE(delta), RANGE(message), sender_pads, pads), SOFTSPOKEN_DONE, 1);
-    expect_public("sender verify", &r, RECORD_BYTES);
+    expect_public("sender verify", &r, sizeof r);
     expect_secret("sender's pads", sender_pads, pads);
 }
 

@@ -98,8 +98,10 @@ static void refusals(struct call c, struct softspoken_record r) {
     if (opens) {
         c.number = r.last;
         refused(c, r, SOFTSPOKEN_ERR_BATCH);
-        c.number = (uint32_t)r.last; /* a lower half doesn't count by itself */
-        refused(c, r, SOFTSPOKEN_ERR_BATCH);
+        if (r.last > UINT32_MAX) {
+            c.number = (uint64_t)(uint32_t)r.last + 1; /* by its lower half it is the next */
+            refused(c, r, SOFTSPOKEN_ERR_BATCH);
+        }
     }
     r.stage = opens ? SOFTSPOKEN_STAGE_OPEN : SOFTSPOKEN_STAGE_READY;
     refused(c, r, SOFTSPOKEN_ERR_STAGE);
