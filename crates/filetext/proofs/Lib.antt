@@ -1,3 +1,2 @@
-pub mod Pieces
 pub mod Digits
 pub mod Texts

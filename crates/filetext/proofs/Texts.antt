@@ -10,9 +10,10 @@ use native.Mathlib.Decide.{decLt}
 use lib.ListN.{length, take, drop, replicate, length-append, length-take, length-drop}
 use lib.Seq.{length-take-le}
 use borrow.Author.Tests.{lt-ltb, le-ltb}
-use Rattle.words.specs.Bytes.{part, concat}
+use Rattle.words.specs.Bytes.{part, put, concat}
 use Rattle.sha256.specs.Sha.{digestOf}
 use Rattle.sha256.proofs.Digests.{digest-length}
+use Rattle.sha256.proofs.Blocks.{put-next, drop-zeros}
 use Rattle.sizes.proofs.Widths.{width-fits}
 use Rattle.answer.specs.Answer.{number, isDone, whenDone}
 use Rattle.answer.proofs.Order.{new-when, old-when}
@@ -155,3 +156,9 @@ holds-within r l h = omega (arith, h .long, ap length (h .bytes), length-append 
 
 pub holds-counted : (r : Text) (l : List ℕ) → Holds r l → r .len ≡ length (take (r .len) (r .bytes))
 holds-counted r l h = sym (length-take-le (r .len) (r .bytes) (holds-within r l h))
+
+-- ---- over zeros
+
+-- over zeros a range has those that are left after it
+pub put-zeros : (n : ℕ) (l : List ℕ) → length l ≤ n → put (replicate n 0) 0 l ≡ l ++ replicate (n - length l) 0
+put-zeros n l h = put-next [] (replicate n 0) l 0 refl ∙ ap (λ (r : List ℕ). l ++ r) (drop-zeros (length l) n h)

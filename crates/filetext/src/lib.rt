@@ -1,10 +1,10 @@
 // The text that the program batchprint prints, as a function of what it read.
 use batchfile::FileHead;
 ghost use mathlib.Core.List.{_++_};
+ghost use Rattle.words.specs.Pieces.{Room, Laid};
 ghost use Rattle.batchfile.specs.File.{Taken};
 ghost use Rattle.foldtext.specs.Line.{hexDigits};
 ghost use Rattle.filetext.specs.Text.{decimal, hexOf, headLine, digestLine, bodyLine, refusedLine, bodyLines, textOf, Holds};
-ghost use Rattle.filetext.specs.Laid.{Room, Laid};
 
 // The first len of the bytes.
 pub struct Text {
@@ -12,16 +12,8 @@ pub struct Text {
     pub bytes: [u8; 512],
 }
 
-// Lays a piece over out from a place on, and returns the place after it. So do the functions that follow, each with a piece of its own.
-fn lay(out: &mut [u8], at: usize, piece: &[u8]) -> usize
-    requires { ⌜ Room (now out) at (now piece) ⌝ }
-    ensures { λ r. ⌜ Laid (now (out .entry)) at (now (piece .entry)) (now (out .exit)) r ⌝ }
-{
-    words::copy_part(out, at, piece);
-    at + piece.len()
-}
-
-// A number in decimal: its digits from the last to the first, and then all of them.
+// Lays a number in decimal over out from a place on, its digits from the last to the first and then all of them, and returns the place
+// after it. So do the functions that follow, each with a piece of its own.
 fn lay_decimal(out: &mut [u8], at: usize, x: u64) -> usize
     requires { ⌜ Room (now out) at (decimal x) ⌝ }
     ensures { λ r. ⌜ Laid (now (out .entry)) at (decimal x) (now (out .exit)) r ⌝ }
@@ -36,7 +28,7 @@ fn lay_decimal(out: &mut [u8], at: usize, x: u64) -> usize
     }
     i -= 1;
     digits[i] = 48 + rest as u8;
-    lay(out, at, &digits[i..])
+    words::lay(out, at, &digits[i..])
 }
 
 // A number after its name.
@@ -44,7 +36,7 @@ fn lay_named(out: &mut [u8], at: usize, name: &[u8], x: u64) -> usize
     requires { ⌜ Room (now out) at (now name ++ decimal x) ⌝ }
     ensures { λ r. ⌜ Laid (now (out .entry)) at (now (name .entry) ++ decimal x) (now (out .exit)) r ⌝ }
 {
-    let next = lay(out, at, name);
+    let next = words::lay(out, at, name);
     lay_decimal(out, next, x)
 }
 
@@ -55,7 +47,7 @@ fn lay_byte(out: &mut [u8], at: usize, b: u8) -> usize
 {
     let high = foldtext::digit((b / 16) as u64);
     let low = foldtext::digit((b % 16) as u64);
-    lay(out, at, &[high, low])
+    words::lay(out, at, &[high, low])
 }
 
 // Some bytes so.
@@ -80,7 +72,7 @@ fn lay_head(out: &mut [u8], at: usize, head: FileHead) -> usize
     let mut next = lay_named(out, at, b"width ", head.width as u64);
     next = lay_named(out, next, b" blocks ", head.blocks as u64);
     next = lay_named(out, next, b" batch ", head.batch);
-    lay(out, next, b"\n")
+    words::lay(out, next, b"\n")
 }
 
 // The end of a body's line: its digest.
@@ -88,9 +80,9 @@ fn lay_digest(out: &mut [u8], at: usize, body: &[u8]) -> usize
     requires { ⌜ Room (now out) at (digestLine (now body)) ⌝ }
     ensures { λ r. ⌜ Laid (now (out .entry)) at (digestLine (now (body .entry))) (now (out .exit)) r ⌝ }
 {
-    let mut next = lay(out, at, b" sha256 ");
+    let mut next = words::lay(out, at, b" sha256 ");
     next = lay_hex(out, next, &sha256::one::digest(body));
-    lay(out, next, b"\n")
+    words::lay(out, next, b"\n")
 }
 
 // The line of a body.
@@ -109,7 +101,7 @@ fn lay_refused(out: &mut [u8], at: usize, number: u32) -> usize
     ensures { λ r. ⌜ Laid (now (out .entry)) at (refusedLine number) (now (out .exit)) r ⌝ }
 {
     let next = lay_named(out, at, b"refused ", number as u64);
-    lay(out, next, b"\n")
+    words::lay(out, next, b"\n")
 }
 
 // The lines of the five bodies of a file that is taken.
@@ -132,7 +124,7 @@ fn lay_text(out: &mut [u8], input: &[u8]) -> usize
     ensures { λ r. ⌜ Laid (now (out .entry)) 0 (textOf (now (input .entry))) (now (out .exit)) r ⌝ }
 {
     if batchfile::LONGEST_FILE < input.len() {
-        return lay(out, 0, b"too long\n");
+        return words::lay(out, 0, b"too long\n");
     }
     let found = batchfile::find(input);
     let answer = found.answer;

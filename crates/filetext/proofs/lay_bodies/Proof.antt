@@ -7,8 +7,8 @@ use denote.Ref.{now}
 use Rattle.words.specs.Bytes.{concat}
 use Rattle.filereader.proofs.Bodies.{bodies-of}
 use Rattle.filetext.specs.Text.{bodyLine, lineAt, bodyLines}
-use Rattle.filetext.specs.Laid.{Laid}
-use Rattle.filetext.proofs.Pieces.{room-as, laid-as, laid-none, laid-kept, room-at, laid-at}
+use Rattle.words.specs.Pieces.{Laid}
+use Rattle.words.proofs.Pieces.{room-as, laid-as, laid-none, laid-kept, room-at, laid-at}
 use Rattle.filetext.proofs.lay_bodies.Statement.{statement}
 use Rattle.filetext.proofs.lay_bodies.Tie as tie
 

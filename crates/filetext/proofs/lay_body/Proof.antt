@@ -4,8 +4,8 @@ use Prim.Native.Nat.{ℕ}
 use lib.ListN.{length}
 use borrow.Author.Needs.{needs}
 use Rattle.filetext.specs.Text.{named, digestLine, bodyLine}
-use Rattle.filetext.specs.Laid.{Room}
-use Rattle.filetext.proofs.Pieces.{room-first, room-next, laid-more}
+use Rattle.words.specs.Pieces.{Room}
+use Rattle.words.proofs.Pieces.{room-first, room-next, laid-more}
 use Rattle.filetext.proofs.lay_body.Statement.{statement}
 use Rattle.filetext.proofs.lay_body.Tie as tie
 

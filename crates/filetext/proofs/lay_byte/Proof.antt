@@ -5,7 +5,7 @@ use Prim.Native.Nat.{ℕ, _/_, _%_}
 use native.Mathlib.Omega.{arith}
 use borrow.Author.Needs.{needs}
 use Rattle.foldtext.specs.Line.{hexDigit, hexDigits}
-use Rattle.filetext.proofs.Pieces.{laid-as}
+use Rattle.words.proofs.Pieces.{laid-as}
 use Rattle.filetext.proofs.lay_byte.Statement.{statement}
 use Rattle.filetext.proofs.lay_byte.Tie as tie
 

@@ -3,7 +3,7 @@ use mathlib.Core.Path.{refl, ap}
 use native.Mathlib.Omega.{arith}
 use lib.ListN.{length, length-set}
 use borrow.Author.Needs.{needs}
-use Rattle.filetext.proofs.Pieces.{laid-as}
+use Rattle.words.proofs.Pieces.{laid-as}
 use Rattle.filetext.proofs.Digits.{Written, written-none, written-more, written-all}
 use Rattle.filetext.proofs.lay_decimal.Statement.{statement}
 use Rattle.filetext.proofs.lay_decimal.Tie as tie

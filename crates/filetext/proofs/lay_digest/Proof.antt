@@ -5,8 +5,8 @@ use Prim.Native.Nat.{ℕ}
 use borrow.Author.Needs.{needs}
 use Rattle.sha256.specs.Sha.{digestOf}
 use Rattle.filetext.specs.Text.{codes, hexOf, digestLine}
-use Rattle.filetext.specs.Laid.{Room}
-use Rattle.filetext.proofs.Pieces.{room-as, laid-as, room-first, room-next, laid-more}
+use Rattle.words.specs.Pieces.{Room}
+use Rattle.words.proofs.Pieces.{room-as, laid-as, room-first, room-next, laid-more}
 use Rattle.filetext.proofs.lay_digest.Statement.{statement}
 use Rattle.filetext.proofs.lay_digest.Tie as tie
 

@@ -4,8 +4,8 @@ use Prim.Native.Nat.{ℕ}
 use borrow.Author.Needs.{needs}
 use Rattle.batchfile.specs.declared.FileHead.{FileHead}
 use Rattle.filetext.specs.Text.{codes, named, headLine}
-use Rattle.filetext.specs.Laid.{Room}
-use Rattle.filetext.proofs.Pieces.{room-first, room-next, laid-more}
+use Rattle.words.specs.Pieces.{Room}
+use Rattle.words.proofs.Pieces.{room-first, room-next, laid-more}
 use Rattle.filetext.proofs.lay_head.Statement.{statement}
 use Rattle.filetext.proofs.lay_head.Tie as tie
 

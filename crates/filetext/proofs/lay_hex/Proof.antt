@@ -8,8 +8,8 @@ use borrow.Author.Needs.{needs}
 use Rattle.words.specs.Bytes.{concat}
 use Rattle.foldtext.specs.Line.{hexDigits}
 use Rattle.filetext.specs.Text.{hexOf}
-use Rattle.filetext.specs.Laid.{Laid}
-use Rattle.filetext.proofs.Pieces.{laid-none, laid-as, laid-kept, room-at, laid-at}
+use Rattle.words.specs.Pieces.{Laid}
+use Rattle.words.proofs.Pieces.{laid-none, laid-as, laid-kept, room-at, laid-at}
 use Rattle.filetext.proofs.lay_hex.Statement.{statement}
 use Rattle.filetext.proofs.lay_hex.Tie as tie
 

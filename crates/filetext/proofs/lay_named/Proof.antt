@@ -1,6 +1,6 @@
 -- `filetext::lay_named` meets its contract: the two pieces have room one after the other, and are one. Assumes nothing.
 use borrow.Author.Needs.{needs}
-use Rattle.filetext.proofs.Pieces.{room-first, room-next, laid-more}
+use Rattle.words.proofs.Pieces.{room-first, room-next, laid-more}
 use Rattle.filetext.proofs.lay_named.Statement.{statement}
 use Rattle.filetext.proofs.lay_named.Tie as tie
 

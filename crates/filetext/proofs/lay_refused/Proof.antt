@@ -1,7 +1,7 @@
 -- `filetext::lay_refused` meets its contract: the two pieces have room one after the other, and are the line. Assumes nothing.
 use borrow.Author.Needs.{needs}
 use Rattle.filetext.specs.Text.{codes, refusedLine}
-use Rattle.filetext.proofs.Pieces.{room-first, room-next, laid-more}
+use Rattle.words.proofs.Pieces.{room-first, room-next, laid-more}
 use Rattle.filetext.proofs.lay_refused.Statement.{statement}
 use Rattle.filetext.proofs.lay_refused.Tie as tie
 

@@ -8,8 +8,8 @@ use Rattle.answer.proofs.Order.{new-when}
 use Rattle.batchfile.specs.declared.FileHead.{FileHead}
 use Rattle.batchfile.specs.File.{headOf, readAnswer, Taken, noHead}
 use Rattle.filetext.specs.Text.{headLine, refusedLine, bodyLines, textOf}
-use Rattle.filetext.specs.Laid.{Room}
-use Rattle.filetext.proofs.Pieces.{room-as, laid-as, room-first, room-next, laid-more}
+use Rattle.words.specs.Pieces.{Room}
+use Rattle.words.proofs.Pieces.{room-as, laid-as, room-first, room-next, laid-more}
 use Rattle.batchfile.proofs.Reading.{done-taken}
 use Rattle.filetext.proofs.Texts.{text-long, text-taken, text-refused}
 use Rattle.filetext.proofs.lay_text.Statement.{statement}

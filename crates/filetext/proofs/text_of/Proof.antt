@@ -5,8 +5,7 @@ use native.Mathlib.Omega.{arith}
 use lib.ListN.{length}
 use borrow.Author.Needs.{needs}
 use Rattle.filetext.specs.Text.{textOf}
-use Rattle.filetext.proofs.Pieces.{put-zeros}
-use Rattle.filetext.proofs.Texts.{text-fits}
+use Rattle.filetext.proofs.Texts.{text-fits, put-zeros}
 use Rattle.filetext.proofs.text_of.Statement.{statement}
 use Rattle.filetext.proofs.text_of.Tie as tie
 

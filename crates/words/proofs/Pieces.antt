@@ -1,20 +1,15 @@
--- Pieces laid one after the other, and over zeros. Assumes nothing.
-use mathlib.Core.Path.{_≡_, refl, sym, ap, ap₂, _∙_, subst}
+-- Pieces laid one after the other. Assumes nothing.
+use mathlib.Core.Path.{_≡_, sym, ap, ap₂, _∙_, subst}
 use mathlib.Core.List.{List, [], _++_}
 use Prim.Native.Nat.{ℕ, suc, _+_, _-_, _≤_, _<_}
 use native.Mathlib.Nat.{add-zero}
 use native.Mathlib.Numerals.{add-one}
 use native.Mathlib.Omega.{arith}
-use lib.ListN.{length, replicate, length-append}
+use lib.ListN.{length, length-append}
 use Rattle.words.specs.Bytes.{put, concat}
 use Rattle.words.proofs.Concat.{concat-add}
 use Rattle.words.proofs.Parts.{put-length, put-none, put-put}
-use Rattle.sha256.proofs.Blocks.{put-next, drop-zeros}
-use Rattle.filetext.specs.Laid.{Room, Laid}
-
--- over zeros a range has those that are left after it
-pub put-zeros : (n : ℕ) (l : List ℕ) → length l ≤ n → put (replicate n 0) 0 l ≡ l ++ replicate (n - length l) 0
-put-zeros n l h = put-next [] (replicate n 0) l 0 refl ∙ ap (λ (r : List ℕ). l ++ r) (drop-zeros (length l) n h)
+use Rattle.words.specs.Pieces.{Room, Laid}
 
 -- ---- a piece
 
@@ -29,8 +24,8 @@ room-as {d} {at} same = subst (Room d at) same
 pub laid-as : {d : List ℕ} {at : ℕ} {a b m : List ℕ} {e : ℕ} → a ≡ b → Laid d at a m e → Laid d at b m e
 laid-as {d} {at} {m = m} {e} same = subst (λ (p : List ℕ). Laid d at p m e) same
 
--- a buffer keeps its length
-laid-length : {d : List ℕ} {at : ℕ} {a m : List ℕ} {e : ℕ} → Room d at a → Laid d at a m e → length m ≡ length d
+-- a range keeps its length
+pub laid-length : {d : List ℕ} {at : ℕ} {a m : List ℕ} {e : ℕ} → Room d at a → Laid d at a m e → length m ≡ length d
 laid-length {d} {at} {a} room l = ap length (l .bytes) ∙ put-length d at a (room .fits)
 
 -- ---- two pieces: where both have room the first has, and then the second; and they are laid as one
