@@ -12,8 +12,8 @@
        softspoken_receiver_answer    --- check message --->      softspoken_sender_verify
        pads: one per transfer                                    pads: two per transfer
 
-   Random bytes, base transfers and carriage between the sides are the host's. Link with -lsoftspoken. A batch that was
-   kept on file is read by softspoken_file_read.
+   Random bytes, base transfers and carriage between the sides are the host's. Link with -lsoftspoken. What travelled of
+   a batch is kept on file: softspoken_file_write lays it out, softspoken_file_read finds it there.
 
    CALLS. A byte range is a pointer and its length in bytes. The pointer must be valid for that length, and not null
    even where the length is 0. The record, and a range that the call writes, must not overlap any other range of that
@@ -77,7 +77,7 @@ extern "C" {
 /* The major number rises when a program that was compiled with an older header no longer works, the minor one when
    there is something new. The string and the number, which is for #if, are made of these three. */
 #define SOFTSPOKEN_VERSION_MAJOR 2
-#define SOFTSPOKEN_VERSION_MINOR 0
+#define SOFTSPOKEN_VERSION_MINOR 1
 #define SOFTSPOKEN_VERSION_PATCH 0
 #define SOFTSPOKEN_VERSION_NUMBER \
     (SOFTSPOKEN_VERSION_MAJOR * 10000 + SOFTSPOKEN_VERSION_MINOR * 100 + SOFTSPOKEN_VERSION_PATCH)
@@ -118,15 +118,18 @@ extern "C" {
 #define SOFTSPOKEN_RECEIVER_PADS_BYTES(blocks) (SOFTSPOKEN_PAD_BYTES * SOFTSPOKEN_TRANSFERS(blocks))
 #define SOFTSPOKEN_SENDER_PADS_BYTES(blocks) (2 * SOFTSPOKEN_PAD_BYTES * SOFTSPOKEN_TRANSFERS(blocks))
 
-/* A batch on file: its contents of 4 or 5 entries, the bodies whose sizes are not named above, and the longest file
-   that is read, 25562. A host that reads from disk needs room for one byte more, to see that a file is longer. */
+/* A batch on file: its contents of 4 or 5 entries, and the bodies whose sizes are not named above. Then the exact size
+   of a file that is written, with a setup of so many bytes, where 0 means none; and the longest file that is read,
+   25562. A host that reads from disk needs room for one byte more, to see that a file is longer. A macro that has the
+   setup's size evaluates it more than once. */
 #define SOFTSPOKEN_FILE_CONTENTS_BYTES(entries) (4 + 12 * (size_t)(entries))
 #define SOFTSPOKEN_FILE_HEAD_BYTES 10
 #define SOFTSPOKEN_FILE_SHORT_HEAD_BYTES 6
 #define SOFTSPOKEN_FILE_KEY_BYTES 8
-#define SOFTSPOKEN_FILE_MAX \
-    (SOFTSPOKEN_FILE_CONTENTS_BYTES(5) + SOFTSPOKEN_SETUP_MESSAGE_BYTES + SOFTSPOKEN_FILE_HEAD_BYTES + \
-     SOFTSPOKEN_CORRECTION_BYTES(1, SOFTSPOKEN_BLOCKS_MAX) + SOFTSPOKEN_FILE_KEY_BYTES + SOFTSPOKEN_CHECK_MESSAGE_BYTES)
+#define SOFTSPOKEN_FILE_BYTES(width, blocks, setup_bytes) \
+    (SOFTSPOKEN_FILE_CONTENTS_BYTES((setup_bytes) == 0 ? 4 : 5) + (size_t)(setup_bytes) + SOFTSPOKEN_FILE_HEAD_BYTES + \
+     SOFTSPOKEN_CORRECTION_BYTES(width, blocks) + SOFTSPOKEN_FILE_KEY_BYTES + SOFTSPOKEN_CHECK_MESSAGE_BYTES)
+#define SOFTSPOKEN_FILE_MAX SOFTSPOKEN_FILE_BYTES(1, SOFTSPOKEN_BLOCKS_MAX, SOFTSPOKEN_SETUP_MESSAGE_BYTES)
 
 /* ---- What a call returns. */
 enum softspoken_answer {
@@ -375,6 +378,26 @@ static inline struct softspoken_body softspoken_file_body(const struct softspoke
     }
     return body;
 }
+
+/* Writes a batch to a file, always with the long head. Whatever is written is read with the same values and bodies. A
+   batch has one such file: two files with long heads that are read are the same bytes exactly when their head values
+   and all bodies agree, the setup or its absence with them. To bring a file with a short head to the long one, read it
+   and write what was found. The bodies that softspoken_file_body hands out are parts of that file, so the range that is
+   written must be another.
+   Refusals, in this order: ERR_WIDTH; ERR_BATCH if the batch number is 0; ERR_BLOCKS; ERR_BODY if the setup is neither
+   empty nor of the length above, or another body hasn't the length above; ERR_LENGTH if the file hasn't
+   SOFTSPOKEN_FILE_BYTES(width, blocks, setup_len).
+
+   width, blocks, batch  the head's values.
+   setup      in, sent: SOFTSPOKEN_SETUP_MESSAGE_BYTES, or of length 0, which means none.
+   correction in, sent: SOFTSPOKEN_CORRECTION_BYTES(width, blocks).
+   key        in, sent: SOFTSPOKEN_FILE_KEY_BYTES, little-endian.
+   check      in, sent: SOFTSPOKEN_CHECK_MESSAGE_BYTES.
+   file       out, sent: SOFTSPOKEN_FILE_BYTES(width, blocks, setup_len). When done: the contents, of 5 entries or,
+              without a setup, of 4; then the setup, the head, the correction, the key and the check. */
+uint32_t softspoken_file_write(uint32_t width, uint32_t blocks, uint64_t batch, const uint8_t *setup, size_t setup_len,
+                               const uint8_t *correction, size_t correction_len, const uint8_t *key, size_t key_len,
+                               const uint8_t *check, size_t check_len, uint8_t *file, size_t file_len);
 
 #ifdef __cplusplus
 }

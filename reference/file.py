@@ -1,4 +1,4 @@
-"""A batch on file, for any bytes: paper 02, notes 1 and 3.
+"""A batch on file, for any bytes: paper 02, notes 1, 3 and 4.
 
 A file has its contents, then its bodies: of the kinds in order, of which the setup may be absent. The names are those of setup.py.
 """
@@ -10,7 +10,7 @@ import random
 import sha256
 import sizes
 from batch import BATCH, BLOCKS, parts
-from setup import DONE, WIDTH, WIDTHS
+from setup import DONE, LENGTH, WIDTH, WIDTHS
 
 CONTENTS, BODY = 7, 8
 
@@ -25,7 +25,7 @@ Head = collections.namedtuple("Head", "width blocks batch")
 Read = collections.namedtuple("Read", "answer head places bodies")
 
 
-# Writing, also what isn't to be read: bodies of any length, and contents that say anything.
+# Laying a file, also what isn't to be read: bodies of any length, and contents that say anything.
 
 def head_body(width, blocks, batch):
     return bytes([width, blocks]) + batch.to_bytes(sizes.head_length() - 2, "little")
@@ -79,15 +79,19 @@ def answer_to(bodies):
     """The answer that the bodies get, which are there by their kinds."""
     if len(bodies[HEAD]) not in HEAD_LENGTHS:
         return BODY
-    width, blocks, batch = head_in(bodies[HEAD])
-    if width not in WIDTHS:
+    return answer_by(head_in(bodies[HEAD]), {kind: body for kind, body in bodies.items() if kind != HEAD})
+
+
+def answer_by(head, others):
+    """The answer that the head's values get, and then the other bodies, which are there by their kinds."""
+    if head.width not in WIDTHS:
         return WIDTH
-    if batch == 0:
+    if head.batch == 0:
         return BATCH
-    if not 1 <= blocks <= 15:
+    if not 1 <= head.blocks <= 15:
         return BLOCKS
-    right = body_lengths(width, blocks)
-    return DONE if all(len(body) == right[kind] for kind, body in bodies.items() if kind != HEAD) else BODY
+    right = body_lengths(head.width, head.blocks)
+    return DONE if all(len(body) == right[kind] for kind, body in others.items()) else BODY
 
 
 def head_in(body):
@@ -119,6 +123,19 @@ def refused(answer, file):
     return Read(answer, Head(0, 0, 0), [len(file)] * (len(KINDS) + 1), [b""] * len(KINDS))
 
 
+# Writing, always with the long head.
+
+def write_batch(head, setup, correction, key, check, lent):
+    """The answer, and what the range that is lent for the file then holds. A setup without bytes is none."""
+    others = {CORRECTION: correction, KEY: key, CHECK: check}
+    answer = answer_by(head, {SETUP: setup, **others} if setup else others)
+    if answer != DONE:
+        return answer, lent
+    if len(lent) != sizes.file_length(head.width, head.blocks, len(setup)):
+        return LENGTH, lent
+    return DONE, write(head_body(*head), setup or None, correction, key, check)
+
+
 # What the program batchprint prints.
 
 def longest():
@@ -140,9 +157,21 @@ def batchprint(data):
     return text
 
 
+def write_again(data):
+    """What is written of a file that is read, into a range of the exact length: it is read with the same values and bodies, and of a file
+    with a long head it is the same bytes."""
+    _, head, _, (setup, old_head, *others) = read(data)
+    answer, after = write_batch(head, setup, *others, bytes(sizes.file_length(head.width, head.blocks, len(setup))))
+    again = read(after)
+    assert (answer, again.answer, again.head) == (DONE, DONE, head)
+    assert again.bodies == [setup, head_body(*head), *others]
+    assert (after == data) == (len(old_head) == sizes.head_length())
+    return after
+
+
 def check():
-    """What was written is read, at every width, with either head, and with and without a setup, and each body lies between its place and
-    the next."""
+    """What was laid is read, at every width, with either head, and with and without a setup, and each body lies between its place and the
+    next. Written, it is the file that has the long head, and nothing is written to a range of another length."""
     rng = random.Random(1)
     for width in WIDTHS:
         for blocks in (1, 2, 15):
@@ -150,8 +179,13 @@ def check():
             short, long = rng.randrange(1, 1 << 32), rng.randrange(1, 1 << 64)
             for batch, head in ((short, short_head_body(width, blocks, short)), (long, head_body(width, blocks, long))):
                 for setup in (given[SETUP], None):
-                    file = write(head, setup, given[CORRECTION], given[KEY], given[CHECK])
+                    others = [given[kind] for kind in (CORRECTION, KEY, CHECK)]
+                    file = write(head, setup, *others)
                     answer, found, places, bodies = read(file)
                     assert (answer, found) == (DONE, (width, blocks, batch))
-                    assert bodies == [setup or b"", head, given[CORRECTION], given[KEY], given[CHECK]]
+                    assert bodies == [setup or b"", head, *others]
                     assert bodies == [file[a:b] for a, b in itertools.pairwise(places)]
+                    written = write_again(file)
+                    assert written == write(head_body(width, blocks, batch), setup, *others)
+                    for lent in (bytes(len(written) - 1), bytes(len(written) + 1)):
+                        assert write_batch(found, setup or b"", *others, lent) == (LENGTH, lent)

@@ -1,5 +1,5 @@
-"""The files that the program files reads, and what it must print of them; and those that tests/host reads. Each stands beside the answer
-that paper 02, notes 1 and 3 name."""
+"""The files that the program files reads and writes, and what it must print of them; and those that tests/host reads. Each stands beside
+the answer that paper 02, notes 1, 3 and 4 name."""
 
 import functools
 import hashlib
@@ -11,16 +11,16 @@ import file
 import sizes
 from file import BODY, CHECK, CONTENTS, CORRECTION, HEAD, KEY, KINDS, SETUP, Entry
 from records import LIMIT, Records, derived, long, numbers
-from setup import DONE, WIDTH, WIDTHS
+from setup import DONE, LENGTH, WIDTH, WIDTHS
 
 MOST = (1 << 32) - 1
 LAST = (1 << 64) - 1
 HALF = 1 << 31
 
 # What a record asks for.
-READ = 1
+READ, WRITE, AGAIN = 1, 2, 3
 
-# As much as the program derives; no file here is longer.
+# As much as the program derives; no file here is longer, nor are the bodies that are to be written together.
 DERIVED = 61472
 
 
@@ -48,15 +48,47 @@ def told(found):
     return (line + b"".join(hashlib.sha256(body).digest()[:8] + long(len(body)) for body in bodies)).hex()
 
 
+def told_written(answer, after):
+    """The answer's number, and the digest of the range that was lent for the file, as it is then."""
+    return (bytes([answer]) + hashlib.sha256(after).digest()).hex()
+
+
 class Files(Records):
-    """A line a file. A record has the file's length, a seed, and the parts of the file that are sent: place, length and bytes."""
+    """A line a record. To read a file it has the file's length, a seed, and the parts of the file that are sent: place, length and bytes.
+    To write one it has the head's values, the lengths of the other bodies and of the range for the file, and a seed. To write what reading
+    finds it has the length of that range, and then all that it has to read."""
+
+    def __init__(self):
+        super().__init__()
+        self.files = []  # those that were read, each with its seed and what its record has
 
     def read(self, answer, seed, data):
         found = file.read(data)
         assert found.answer == answer
         assert len(data) <= DERIVED
         sent = [numbers(at, len(part)) + part for at, part in pieces(data, seed)]
-        self.add(READ, numbers(len(data), seed) + b"".join(sent), told(found))
+        payload = numbers(len(data), seed) + b"".join(sent)
+        self.files.append((data, seed, payload))
+        self.add(READ, payload, told(found))
+
+    def write(self, answer, seed, head, lengths, length):
+        """Setup, correction, key and check have these lengths, and follow one another in what the seed gives."""
+        assert sum(lengths) <= DERIVED and length <= DERIVED
+        bodies = [under(seed)[end - n:end] for n, end in zip(lengths, itertools.accumulate(lengths))]
+        payload = numbers(head.width, head.blocks) + long(head.batch) + numbers(*lengths, length, seed)
+        self.add_written(WRITE, payload, answer, head, bodies, derived(seed, 1, length))
+
+    def again(self, answer, length, data, seed, payload):
+        """Of a file that is refused the values are 0 and the bodies empty."""
+        assert length <= DERIVED
+        found = file.read(data)
+        bodies = [body for kind, body in zip(KINDS, found.bodies) if kind != HEAD]
+        self.add_written(AGAIN, numbers(length) + payload, answer, found.head, bodies, derived(seed, 1, length))
+
+    def add_written(self, kind, payload, answer, head, bodies, lent):
+        given, after = file.write_batch(head, *bodies, lent)
+        assert given == answer and len(after) == len(lent)
+        self.add(kind, payload, told_written(given, after))
 
 
 class Host:
@@ -343,6 +375,140 @@ def body_lengths(site):
     site.consistent(BODY, correction=right - 1, check=1033)
 
 
+# What reading finds, written.
+
+def written_again(v):
+    """Every file above that is read, into a range of the exact length."""
+    for given in v.files:
+        if file.read(given[0]).answer == DONE:
+            v.again(DONE, len(file.write_again(given[0])), *given)
+
+
+def again_refused(v):
+    """Of both layouts, with either head, into a range that is a byte shorter or longer, or as long as with a short head. Then files that
+    are refused: no batch is found there."""
+    shorter = sizes.head_length() - sizes.short_head_length()
+    found = [(file.read(given[0]), given) for given in v.files]
+    layouts = {tuple(len(body) for body in read.bodies[:2]): given for read, given in found if read.answer == DONE}
+    assert len(layouts) == 4
+    for given in layouts.values():
+        right = len(file.write_again(given[0]))
+        for length in (right - 1, right + 1, right - shorter):
+            v.again(LENGTH, length, *given)
+    refused = {read.answer: given for read, given in found if read.answer != DONE}
+    for given in refused.values():
+        v.again(WIDTH, len(given[0]), *given)
+
+
+# Values and bodies, written.
+
+def write_lengths(width, blocks, setup):
+    """Of all ranges, by name, where the setup has this length."""
+    right = file.body_lengths(width, blocks)
+    return {"setup": setup, "correction": right[CORRECTION], "key": right[KEY], "check": right[CHECK],
+            "file": sizes.file_length(width, blocks, setup)}
+
+
+class Call:
+    """A call of the writer that is done, and those that are nearly that. The head's values and the ranges' lengths go by name."""
+
+    def __init__(self, v, width, blocks, setup, number):
+        self.v, self.seed = v, v.records
+        self.width, self.blocks, self.setup = width, blocks, setup
+        self.right = {"width": width, "blocks": blocks, "batch": number, **write_lengths(width, blocks, setup)}
+
+    def case(self, answer, **other):
+        given = {**self.right, **other}
+        assert given.keys() == self.right.keys()
+        head = file.Head(given["width"], given["blocks"], given["batch"])
+        lengths = [given[name] for name in ("setup", "correction", "key", "check")]
+        self.v.write(answer, self.seed, head, lengths, given["file"])
+
+    def fitted(self, answer, **other):
+        """The file's range is as long as the bodies ask, whatever the head says."""
+        given = {**self.right, **other}
+        bodies = sum(given[name] for name in ("setup", "correction", "key", "check"))
+        contents = sizes.contents_length(len(KINDS) if given["setup"] else len(KINDS) - 1)
+        self.case(answer, file=contents + sizes.head_length() + bodies, **other)
+
+
+# What a file has by width, blocks and the setup's length: with the shortest correction and with the longest, each of both layouts.
+FILES = {(8, 1, 0): 1342, (8, 1, 8192): 9546, (1, 15, 0): 17358, (1, 15, 8192): 25562}
+
+
+def written(v, rng):
+    """At every width, of both layouts. Once with the fewest blocks and once with the most also the least and the highest batch number,
+    those about 2^32, of which one has no lower half, and 2^63."""
+    assert all(sizes.file_length(*given) == length for given, length in FILES.items())
+    for width, blocks, setup in itertools.product(WIDTHS, (1, 2, 15), (0, 8192)):
+        call = Call(v, width, blocks, setup, rng.randrange(1 << 32, 1 << 64))
+        call.case(DONE)
+        for number in (1, MOST, MOST + 1, 1 << 63, LAST) if (blocks, setup) in ((1, 8192), (15, 0)) else ():
+            call.case(DONE, batch=number)
+
+
+def write_heads(call):
+    """1, 3 and 4 for the head's values: numbers that a byte, or 16 or 31 bits, would cut to right ones, also where the ranges are as those
+    ask; and numbers whose own lengths the ranges have."""
+    width, blocks, setup = call.width, call.blocks, call.setup
+    for wrong in (0, 3, 5, 16, 255, 256, width + (1 << 16), width + HALF, MOST):
+        call.case(WIDTH, width=wrong)
+    for cut in WIDTHS:
+        call.case(WIDTH, width=cut + 256, **write_lengths(cut, blocks, setup))
+    for wrong in (3, 16):
+        call.case(WIDTH, width=wrong, **write_lengths(wrong, blocks, setup))
+    call.case(batch.BATCH, batch=0)
+    for wrong in (0, 16, 255, 256, blocks + (1 << 16), blocks + HALF, MOST):
+        call.case(batch.BLOCKS, blocks=wrong)
+    for cut in (1, 15):
+        call.case(batch.BLOCKS, blocks=cut + 256, **write_lengths(width, cut, setup))
+    for wrong in (0, 16):
+        call.case(batch.BLOCKS, blocks=wrong, **write_lengths(width, wrong, setup))
+
+
+def write_bodies(call):
+    """8 for a body's length, where the file's range is as long as before, and where it is as the bodies ask."""
+    width, blocks, right = call.width, call.blocks, call.right["correction"]
+    wrong = [{"setup": length} for length in (1, 4096, 8191, 8193)]
+    wrong += [{"correction": length} for length in (0, right - 1, right + 1, right + sizes.column_length(width, blocks))]
+    wrong += [{"correction": sizes.correction_length(other, blocks)} for other in WIDTHS if other != width]
+    wrong += [{"key": length} for length in (0, 7, 9)] + [{"check": length} for length in (0, 1031, 1033)]
+    for other in wrong:
+        call.case(BODY, **other)
+        call.fitted(BODY, **other)
+    for other in WIDTHS:
+        if other != width:
+            call.case(BODY, width=other)
+    call.case(BODY, blocks=16 - blocks)
+    # the file is as long as it should be
+    call.case(BODY, key=7, check=1033)
+    call.case(BODY, correction=right + 1, key=7)
+    call.case(BODY, correction=right - 1, check=1033)
+    call.case(BODY, setup=call.setup + 1, key=7)
+
+
+def write_files(call):
+    """5 for the length of the file's range: as it would be with a setup or without, of another width, or with other entries or heads."""
+    right, others = call.right["file"], [other for other in WIDTHS if other != call.width]
+    lengths = [0, right - 1, right + 1, right - 4, right + 4, right - 12, right + 12, DERIVED]
+    lengths.append(sizes.file_length(call.width, call.blocks, 8192 - call.setup))
+    lengths += [sizes.file_length(other, call.blocks, call.setup) for other in others]
+    for length in lengths:
+        call.case(LENGTH, file=length)
+
+
+def write_order(call):
+    """1, 3, 4, 8, 5: of any two the first; and of more, all from one on, this one."""
+    right = call.right["correction"]
+    broken = [(WIDTH, {"width": 3}), (batch.BATCH, {"batch": 0}), (batch.BLOCKS, {"blocks": 16}), (BODY, {"setup": 1}),
+              (BODY, {"correction": right + 1}), (BODY, {"key": 7}), (BODY, {"check": 1033}), (LENGTH, {"file": call.right["file"] + 2})]
+    for (answer, first), (later, second) in itertools.combinations(broken, 2):
+        if answer != later:
+            call.case(answer, **first, **second)
+    for at, (answer, _) in enumerate(broken[:-2]):
+        call.case(answer, **{name: value for _, other in broken[at:] for name, value in other.items()})
+
+
 def cases():
     rng = random.Random(7)
     v = Files()
@@ -363,6 +529,13 @@ def cases():
         site = Site(v, width, blocks, layout, rng.randrange(1 << 32, 1 << 64), file.head_body)
         for group in (ends, long_head_lengths, heads, body_lengths):
             group(site)
+    written_again(v)
+    again_refused(v)
+    written(v, rng)
+    for width, blocks, setup in ((1, 15, 8192), (2, 1, 0), (4, 1, 8192), (8, 15, 0)):
+        call = Call(v, width, blocks, setup, rng.randrange(1 << 32, 1 << 64))
+        for group in (write_heads, write_bodies, write_files, write_order):
+            group(call)
     assert len(v.asked) <= LIMIT
     return v
 

@@ -7,10 +7,10 @@
 #define AT(line, fact) HOLDS(line, fact)
 #define EXPECT(fact) AT(__LINE__, fact)
 
-#if SOFTSPOKEN_VERSION_NUMBER < 20000 || SOFTSPOKEN_VERSION_NUMBER / 10000 != SOFTSPOKEN_VERSION_MAJOR
+#if SOFTSPOKEN_VERSION_NUMBER < 20100 || SOFTSPOKEN_VERSION_NUMBER / 10000 != SOFTSPOKEN_VERSION_MAJOR
 #error "the version's number"
 #endif
-EXPECT(sizeof(SOFTSPOKEN_VERSION) >= sizeof("2.0.0"));
+EXPECT(sizeof(SOFTSPOKEN_VERSION) >= sizeof("2.1.0"));
 
 /* The record, without a hole before its end; there are 4 bytes after stage that mean nothing. */
 EXPECT(sizeof(struct softspoken_record) == 24);
@@ -82,3 +82,9 @@ EXPECT(SOFTSPOKEN_FILE_SHORT_HEAD_BYTES == 1 + 1 + 4);
 EXPECT(SOFTSPOKEN_FILE_KEY_BYTES == 8);
 EXPECT(SOFTSPOKEN_FILE_MAX == 64 + 8192 + 10 + 16256 + 8 + 1032);
 EXPECT(SOFTSPOKEN_FILE_MAX == 25562);
+
+/* The shortest and the longest file that is written, without a setup and with it. */
+EXPECT(SOFTSPOKEN_FILE_BYTES(8, 1, 0) == 1342);
+EXPECT(SOFTSPOKEN_FILE_BYTES(8, 1, 8192) == 9546);
+EXPECT(SOFTSPOKEN_FILE_BYTES(1, 15, 0) == 17358);
+EXPECT(SOFTSPOKEN_FILE_BYTES(1, 15, 8192) == SOFTSPOKEN_FILE_MAX);

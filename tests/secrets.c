@@ -1,7 +1,6 @@
 /* No branch and no address may depend on a secret. Contracts can't say this and a mask in the source is not enough, so the compiled
    functions run under memcheck with every secret range marked undefined: a jump or an address that depends on one is reported. */
 #include "../bench/bench.h"
-#include "file.h"
 #include "ranges.h"
 #include <stdio.h>
 #include <string.h>
@@ -132,25 +131,42 @@ static void batch(uint32_t width, uint32_t blocks) {
     verify(blocks, &sender);
 }
 
-/* A file of what travelled in the batch before, which all counts as secret here: the reader is steered by contents and head alone, and
-   tells nothing of the other bodies. Between blocks and batch the struct has bytes that mean nothing. */
-static void file(uint32_t width, uint32_t blocks) {
+/* What travelled in the batch before is written to a file, with a setup of so many bytes. All of it counts as secret here, the key's bytes
+   too, but contents and head must be public. */
+static size_t write_file(uint32_t width, uint32_t blocks, size_t setup, uint8_t *file) {
+    static uint8_t sent_key[SOFTSPOKEN_FILE_KEY_BYTES];
+    const size_t len = SOFTSPOKEN_FILE_BYTES(width, blocks, setup), sent = SOFTSPOKEN_CORRECTION_BYTES(width, blocks);
+    uint8_t *bodies = file + SOFTSPOKEN_FILE_CONTENTS_BYTES(setup ? 5 : 4), *head = bodies + setup;
+    uint8_t *rest = head + SOFTSPOKEN_FILE_HEAD_BYTES;
+    memset(file, 0, len);
+    hide(RANGE(sent_key));
+    DONE("file write", softspoken_file_write(width, blocks, 1, setup_message, setup, correction, sent, RANGE(sent_key), RANGE(message),
+                                             file, len));
+    expect_public("contents of a file", file, bodies - file);
+    if (setup) expect_secret("setup in a file", bodies, setup);
+    expect_public("head in a file", head, rest - head);
+    expect_secret("correction in a file", rest, sent);
+    expect_secret("key in a file", rest + sent, sizeof sent_key);
+    expect_secret("check message in a file", rest + sent + sizeof sent_key, sizeof message);
+    return len;
+}
+
+/* The reader is steered by contents and head alone, and tells nothing of the other bodies. Between blocks and batch the struct has bytes
+   that mean nothing. */
+static void file(uint32_t width, uint32_t blocks, size_t setup) {
     static uint8_t kept[SOFTSPOKEN_FILE_MAX];
-    const struct lengths n = lengths_for(width, blocks);
-    const size_t len = lay_file(kept, SOFTSPOKEN_FILE_SETUP, n, width, blocks, 1);
-    uint8_t *at = kept + SOFTSPOKEN_FILE_CONTENTS_BYTES(5);
-    memcpy(at, setup_message, sizeof setup_message);
-    at += sizeof setup_message + SOFTSPOKEN_FILE_HEAD_BYTES;
-    memcpy(at, correction, n.of[SOFTSPOKEN_FILE_CORRECTION]);
-    at += n.of[SOFTSPOKEN_FILE_CORRECTION];
-    hide(at, SOFTSPOKEN_FILE_KEY_BYTES);
-    memcpy(at + SOFTSPOKEN_FILE_KEY_BYTES, message, sizeof message);
+    const size_t len = write_file(width, blocks, setup, kept);
     unsigned before = VALGRIND_COUNT_ERRORS;
     struct softspoken_file found = softspoken_file_read(kept, len);
     expect_answer("file read", found.answer, SOFTSPOKEN_DONE);
     expect_reports("file read", before, 0);
     expect_public("file read", &found, offsetof(struct softspoken_file, blocks) + sizeof found.blocks);
     expect_public("file read", &found.batch, sizeof found - offsetof(struct softspoken_file, batch));
+}
+
+static void files(uint32_t width, uint32_t blocks) {
+    file(width, blocks, 0);
+    file(width, blocks, sizeof setup_message);
 }
 
 /* The functions of the layers below, alone. */
@@ -223,9 +239,9 @@ int main(int argc, char **argv) {
     for (uint32_t width = 1; width <= 8; width *= 2) {
         setups(width);
         batch(width, 1);
-        file(width, 1);
+        files(width, 1);
         batch(width, MOST);
-        file(width, MOST);
+        files(width, MOST);
     }
     return failed;
 }

@@ -1,6 +1,6 @@
 #!/usr/bin/env python3
-"""Counts what a reader must believe: the definitions that the steps' promises, the three demands and what is said of the gather's places
-and of old batches name, directly or through others.
+"""Counts what a reader must believe: the definitions that the steps' promises, the three demands and what is said of the gather's places,
+of old batches and of files that are written and read name, directly or through others.
 A line of definitions is one that is no comment, no import and not blank. Prints the files and the sums; tests/docs.py holds
 docs/THEOREMS.md and README to them."""
 
@@ -8,9 +8,9 @@ import pathlib
 import re
 
 ROOT = pathlib.Path(__file__).resolve().parent.parent
-PROMISES = [("setup", "Setup"), ("session", "Steps"), ("answer", "Answer"), ("filereader", "Reading"), ("host", "File")]
+PROMISES = [("setup", "Setup"), ("session", "Steps"), ("answer", "Answer"), ("filereader", "Reading"), ("filewriter", "Write"), ("host", "File")]
 DEMANDS = [("theorems", "Demand1"), ("theorems", "Demand2"), ("theorems", "Demand3")]
-NOTES = [("rows", "Place"), ("theorems", "OldBatches")]
+NOTES = [("rows", "Place"), ("theorems", "OldBatches"), ("filewriter", "RoundTrip")]
 # what `declared` holds is made from the structs and enums of src/
 IMPORT = re.compile(r"^use Rattle·(\w+?)(?:·specs)?\.specs\.(?!declared)(\w+)", re.M)
 

@@ -1,6 +1,5 @@
 /* How much stack each exported function takes beside what it is lent: it runs on a stack of its own, filled with a pattern, of which the
    bytes that are no longer the pattern's are counted. Fails where one takes more than include/softspoken.h says. */
-#include "file.h"
 #include "ranges.h"
 #include <stdio.h>
 #include <string.h>
@@ -10,8 +9,7 @@ enum { ROOM = 64 * 1024, LIMIT = 16 * 1024, PATTERN = 0xa5 };
 
 static struct softspoken_record receiver, sender;
 static uint32_t width, answer;
-static uint8_t file[SOFTSPOKEN_FILE_MAX];
-static size_t file_len;
+static uint8_t key[SOFTSPOKEN_FILE_KEY_BYTES] = {27}, file[SOFTSPOKEN_FILE_MAX];
 
 /* In the order of a batch of the most blocks, each on what those before it left. */
 static void nothing(void) { answer = SOFTSPOKEN_DONE; }
@@ -37,13 +35,19 @@ static void end_receiver(void) {
 static void end_sender(void) {
     answer = softspoken_sender_verify(&sender, 27, RANGE(w), RANGE(delta), RANGE(message), RANGE(sender_pads));
 }
+static void write_file(void) {
+    answer = softspoken_file_write(width, MOST, 1, RANGE(setup_message), correction, SOFTSPOKEN_CORRECTION_BYTES(width, MOST), RANGE(key),
+                                   RANGE(message), file, SOFTSPOKEN_FILE_BYTES(width, MOST, sizeof setup_message));
+}
 /* The struct that comes back counts too. */
-static void read_file(void) { answer = softspoken_file_read(file, file_len).answer; }
+static void read_file(void) {
+    answer = softspoken_file_read(file, SOFTSPOKEN_FILE_BYTES(width, MOST, sizeof setup_message)).answer;
+}
 
 static const struct { const char *name; void (*call)(void); } steps[] = {
     {"receiver setup", receiver_setup}, {"sender setup", sender_setup}, {"receiver open", open_receiver}, {"sender open", open_sender},
     {"receiver start", start}, {"sender correct", correct}, {"receiver answer", end_receiver}, {"sender verify", end_sender},
-    {"file read", read_file},
+    {"file write", write_file}, {"file read", read_file},
 };
 
 static size_t taken(void (*call)(void)) {
@@ -71,7 +75,6 @@ int main(void) {
         for (int s = 0; s < STEPS; s++) {
             const size_t own = taken(nothing);
             width = 1u << w;
-            file_len = lay_file(file, SOFTSPOKEN_FILE_SETUP, lengths_for(width, MOST), width, MOST, 1);
             bytes[s][w] = taken(steps[s].call) - own;
             if (answer != SOFTSPOKEN_DONE || bytes[s][w] == 0 || bytes[s][w] > LIMIT) failed = 1;
         }

@@ -1,7 +1,7 @@
-//! A call of one of the seven steps, and what the twin says of it.
+//! A call of one of the seven steps, or of the writer of files, and what the twin says of it.
 
 use crate::library::Record;
-use crate::twin::{batch, setup, sizes};
+use crate::twin::{batch, file, setup, sizes};
 use Step::*;
 
 #[derive(Clone, Copy, PartialEq)]
@@ -13,8 +13,11 @@ pub enum Step {
     SenderCorrect,
     ReceiverAnswer,
     SenderVerify,
+    /// No step, but it is lent numbers and ranges as they are.
+    FileWrite,
 }
 
+/// The steps, without the writer.
 pub const STEPS: [Step; 7] = [
     ReceiverSetup,
     SenderSetup,
@@ -38,6 +41,7 @@ impl Step {
             "sender_correct",
             "receiver_answer",
             "sender_verify",
+            "file_write",
         ][self as usize]
     }
 
@@ -51,6 +55,7 @@ impl Step {
             SenderCorrect => &["siblings", "delta", "correction"],
             ReceiverAnswer => &["choices", "table"],
             SenderVerify => &["table", "delta", "message"],
+            FileWrite => &["setup", "correction", "key", "check"],
         }
     }
 
@@ -64,6 +69,7 @@ impl Step {
             SenderCorrect => &["table"],
             ReceiverAnswer => &["message", "pads"],
             SenderVerify => &["pads"],
+            FileWrite => &["file"],
         }
     }
 
@@ -74,6 +80,7 @@ impl Step {
             Open => &[0, 1],
             ReceiverStart | SenderCorrect | ReceiverAnswer => &[0, 1, 2, 3, 4, 5],
             SenderVerify => &[0, 1, 2, 3, 4, 5, 6],
+            FileWrite => &[0, 1, 3, 4, 5, 8],
         }
     }
 
@@ -89,6 +96,7 @@ impl Step {
             SenderCorrect => batch::correct_lengths(width, blocks).to_vec(),
             ReceiverAnswer => batch::answer_lengths(width, blocks).to_vec(),
             SenderVerify => batch::verify_lengths(width, blocks).to_vec(),
+            FileWrite => file::write_lengths(width, blocks).to_vec(),
         }
     }
 }
@@ -115,7 +123,7 @@ pub struct Outcome {
 impl Call {
     /// The width and the blocks that the lengths of its ranges go by.
     pub fn sizes(&self) -> (u32, u32) {
-        let width = if matches!(self.step, ReceiverSetup | SenderSetup) {
+        let width = if matches!(self.step, ReceiverSetup | SenderSetup | FileWrite) {
             self.width
         } else {
             self.record.width
@@ -142,6 +150,7 @@ impl Call {
             SenderCorrect => batch::sender_correct(self.record, self.batch, self.blocks, self.lent()),
             ReceiverAnswer => batch::receiver_answer(self.record, self.key, self.lent()),
             SenderVerify => batch::sender_verify(self.record, self.key, self.lent()),
+            FileWrite => with_record(file::write_batch(self.width, self.blocks, self.batch, self.lent())),
         };
         let mut ranges = self.ranges.clone();
         ranges.splice(ranges.len() - written.len().., written);

@@ -1,8 +1,8 @@
 //! Makes each call on the library and on the twin, compares all that they leave, and counts.
 
-use crate::call::{Call, Outcome, STEPS};
+use crate::call::{Call, Outcome, Step, STEPS};
 use crate::files;
-use crate::library::{self, Lent, Record};
+use crate::library::{self, File, Lent, Record};
 use crate::random::Random;
 use crate::twin::batch::CHECK;
 use crate::twin::file;
@@ -28,16 +28,19 @@ pub struct Comparison {
     /// Of this the calls are drawn, and nothing else, so that they depend on the seed alone.
     pub random: Random,
     seed: u64,
+    /// No step is called once so many calls have been made.
     limit: usize,
     made: usize,
     plant: Option<Plant>,
     differences: Vec<Place>,
-    /// Of each step, and then of the reads of files, the answers.
-    counts: [[usize; ANSWERS]; STEPS.len() + 1],
+    /// Of each step, then of the writes of files, and then of the reads, the answers.
+    counts: [[usize; ANSWERS]; FILES + 1],
     /// Damaged batches, accepted and refused.
     damaged: [usize; 2],
     /// Pairs of batches whose numbers differ in the upper half alone.
     apart: usize,
+    /// Files that were taken, and then written again: with a short head, and with a long one.
+    again: [usize; 2],
 }
 
 /// The most differences that are printed.
@@ -47,7 +50,7 @@ const PRINTED: usize = 10;
 const ANSWERS: usize = 9;
 
 /// Where the reads of files are counted.
-const FILES: usize = STEPS.len();
+const FILES: usize = STEPS.len() + 1;
 
 /// All that a call is lent or gives, with guards: the answer, the record and the ranges.
 fn parts(number: usize, answer: u32, record: Record, ranges: &[Vec<u8>]) -> Vec<Lent> {
@@ -78,13 +81,14 @@ fn written(call: &Call, done: bool) -> Range<usize> {
 }
 
 impl Comparison {
-    pub fn new(seed: u64, limit: usize, plant: bool) -> Comparison {
+    /// At least so many calls must follow: one of them gets the planted difference, if there is to be one.
+    pub fn new(seed: u64, least: usize, plant: bool) -> Comparison {
         let mut apart = Random::new(!seed);
-        let at = apart.below(limit.max(1));
+        let at = apart.below(least.max(1));
         Comparison {
             random: Random::new(seed),
             seed,
-            limit,
+            limit: 0,
             made: 0,
             plant: plant.then_some(Plant {
                 random: apart,
@@ -95,7 +99,13 @@ impl Comparison {
             counts: [[0; ANSWERS]; FILES + 1],
             damaged: [0; 2],
             apart: 0,
+            again: [0; 2],
         }
+    }
+
+    /// So many calls of steps may now be made.
+    pub fn allow(&mut self, calls: usize) {
+        self.limit = self.made + calls;
     }
 
     /// What the twin says, or nothing if all calls have been made.
@@ -108,35 +118,39 @@ impl Comparison {
         let (_, first) = self.call_left(&calls[0])?;
         let (_, second) = self.call_left(&calls[1])?;
         for at in written(&calls[1], true) {
-            if first[at].content() == second[at].content() {
-                let (call, part, byte) = (self.made - 1, names(&calls[1])[at], 0);
-                let how = format!("{part}: the library wrote the same for batch {}", calls[0].batch);
-                self.differ(Place { call, part, byte }, &|| calls[1].told(), &how);
-            }
+            let (part, other) = (names(&calls[1])[at], first[at].content() != second[at].content());
+            let how = format!("{part}: the library wrote the same for batch {}", calls[0].batch);
+            self.expect(other, part, &|| calls[1].told(), &how);
         }
         self.apart += 1;
         Some(())
     }
 
-    /// What the twin says, and what the library left.
+    /// What the twin says, and what the library left; nothing if all calls have been made.
     fn call_left(&mut self, call: &Call) -> Option<(Outcome, Vec<Lent>)> {
-        if self.made == self.limit {
-            return None;
-        }
-        let outcome = call.twin();
-        let expected = parts(self.made, outcome.answer, outcome.record, &outcome.ranges);
-        let mut left = library_leaves(self.made, call);
-        let written = written(call, outcome.answer == DONE);
-        self.compare(&names(call), &mut left, &expected, written, &|| call.told());
-        self.counts[call.step as usize][outcome.answer as usize] += 1;
-        Some((outcome, left))
+        (self.made < self.limit).then(|| self.compared(call))
     }
 
-    /// Reads a file, on the library and on the twin; nothing if all calls have been made.
-    pub fn read(&mut self, file: &[u8]) -> Option<()> {
-        if self.made == self.limit {
-            return None;
-        }
+    /// What the twin says, and what the library left, without what was planted there.
+    fn compared(&mut self, call: &Call) -> (Outcome, Vec<Lent>) {
+        let outcome = call.twin();
+        let expected = parts(self.made, outcome.answer, outcome.record, &outcome.ranges);
+        let left = library_leaves(self.made, call);
+        let written = written(call, outcome.answer == DONE);
+        self.compare(&names(call), &mut left.clone(), &expected, written, &|| call.told());
+        self.counts[call.step as usize][outcome.answer as usize] += 1;
+        (outcome, left)
+    }
+
+    /// Writes a file, on the library and on the twin: what the library wrote, if it was done.
+    pub fn write(&mut self, call: &Call) -> Option<Vec<u8>> {
+        let (_, left) = self.compared(call);
+        let done = left[0].content() == DONE.to_ne_bytes();
+        done.then(|| left[left.len() - 1].content().to_vec())
+    }
+
+    /// Reads a file, on the library and on the twin: what the library found.
+    pub fn read(&mut self, file: &[u8]) -> File {
         let (found, mut lent) = (file::read(file), Lent::new(file, self.made % 16));
         let expected = vec![
             Lent::new(&found.answer.to_ne_bytes(), 0),
@@ -148,7 +162,15 @@ impl Comparison {
         let told = || format!("file_read: {} bytes, contents {:02x?}", file.len(), &file[..file.len().min(64)]);
         self.compare(&["answer", "found", "file"], &mut left, &expected, 0..2, &told);
         self.counts[FILES][found.answer as usize] += 1;
-        Some(())
+        given
+    }
+
+    /// This must hold of what the library left in the last call, whatever the twin says.
+    pub fn expect(&mut self, right: bool, part: &'static str, told: &dyn Fn() -> String, how: &str) {
+        let (call, byte) = (self.made - 1, 0);
+        if !right {
+            self.differ(Place { call, part, byte }, told, how);
+        }
     }
 
     /// Compares what a call left part by part, after a difference was planted in one of those written, if it is this call's turn.
@@ -194,6 +216,11 @@ impl Comparison {
         }
     }
 
+    /// Counts a file that was taken and written again.
+    pub fn written_again(&mut self, long: bool) {
+        self.again[usize::from(long)] += 1;
+    }
+
     /// Prints the counts and what is wrong; the exit status.
     pub fn status(&self) -> i32 {
         let numbers: [usize; ANSWERS] = std::array::from_fn(|answer| answer);
@@ -203,6 +230,8 @@ impl Comparison {
         }
         let [accepted, refused] = self.damaged;
         println!("damaged batches: {accepted} accepted, {refused} refused");
+        let [short, long] = self.again;
+        println!("files written again: {short} with a short head, {long} with a long one");
         let missing = self.missing();
         missing.iter().for_each(|what| println!("never: {what}"));
         println!(
@@ -220,14 +249,14 @@ impl Comparison {
 
     /// Each function's name, the answers that it can give, and how often each was given.
     fn functions(&self) -> Vec<(&'static str, &'static [u32], [usize; ANSWERS])> {
-        let steps = STEPS.map(|step| (step.name(), step.answers()));
-        let all = steps.into_iter().chain([("file_read", &files::ANSWERS[..])]);
+        let calls = STEPS.into_iter().chain([Step::FileWrite]).map(|step| (step.name(), step.answers()));
+        let all = calls.chain([("file_read", &files::ANSWERS[..])]);
         all.zip(self.counts)
             .map(|((name, answers), counts)| (name, answers, counts))
             .collect()
     }
 
-    /// What should have occurred and didn't: an answer, a verdict on a damaged batch, or a pair of batches.
+    /// What should have occurred and didn't: an answer, a verdict on a damaged batch, a file written again, or a pair of batches.
     fn missing(&self) -> Vec<String> {
         let mut out = vec![];
         for (name, answers, counts) in self.functions() {
@@ -236,6 +265,8 @@ impl Comparison {
         }
         let never = ["accepted", "refused"].iter().zip(self.damaged).filter(|(_, count)| *count == 0);
         out.extend(never.map(|(verdict, _)| format!("a damaged batch was {verdict}")));
+        let never = ["short", "long"].iter().zip(self.again).filter(|(_, count)| *count == 0);
+        out.extend(never.map(|(head, _)| format!("a file with a {head} head was written again")));
         if self.apart == 0 {
             out.push("a pair of batches apart in the upper half".to_string());
         }

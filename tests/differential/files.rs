@@ -4,13 +4,15 @@ use crate::compare::Comparison;
 use crate::draw;
 use crate::random::Random;
 use crate::twin::file::{self, HEAD, KINDS, SETUP};
+use crate::twin::setup::DONE;
 use crate::twin::sizes;
+use crate::writes;
 
 /// The answers that reading can give: include/softspoken.h.
 pub const ANSWERS: [u32; 6] = [0, 1, 3, 4, 7, 8];
 
-/// One file. At least one thing is altered, but it may be one that doesn't matter.
-pub fn play(comparison: &mut Comparison) -> Option<()> {
+/// One file. At least one thing is altered, but it may be one that doesn't matter: what the library finds is then written.
+pub fn play(comparison: &mut Comparison) {
     let random = &mut comparison.random;
     let mut bodies = right(random);
     let (mut misstated, mut damaged) = (random.one_in(2), random.one_in(2));
@@ -24,7 +26,10 @@ pub fn play(comparison: &mut Comparison) -> Option<()> {
         damage(random, &mut file, bodies.len());
         damaged = random.one_in(4);
     }
-    comparison.read(&file)
+    let found = comparison.read(&file);
+    if found.answer == DONE {
+        writes::again(comparison, &file, found);
+    }
 }
 
 /// The bodies of a file that is read, each with its kind.

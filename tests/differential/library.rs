@@ -1,4 +1,4 @@
-//! The library's eight functions, and the ranges that they are lent.
+//! The library's nine functions, and the ranges that they are lent.
 //!
 //! Nothing holds these declarations to include/softspoken.h, except that a wrong one would show as a difference.
 
@@ -53,6 +53,12 @@ impl File {
         [self.setup, self.head, self.correction, self.key, self.check, self.end]
     }
 
+    /// The bodies that lie between the places, which must be those of this file; of other places they are empty.
+    pub fn bodies(self, file: &[u8]) -> [&[u8]; 5] {
+        let places = self.places().map(|place| place as usize);
+        std::array::from_fn(|i| file.get(places[i]..places[i + 1]).unwrap_or(&[]))
+    }
+
     /// All but the answer, without what the struct has between its fields.
     pub fn bytes(self) -> Vec<u8> {
         let head = [self.width, self.blocks].map(u32::to_le_bytes).concat();
@@ -77,6 +83,9 @@ extern "C" {
     fn softspoken_sender_verify(record: *mut Record, key: u64, table: *const u8, table_len: usize, delta: *const u8, delta_len: usize,
         message: *const u8, message_len: usize, pads: *mut u8, pads_len: usize) -> u32;
     fn softspoken_file_read(file: *const u8, file_len: usize) -> File;
+    fn softspoken_file_write(width: u32, blocks: u32, batch: u64, setup: *const u8, setup_len: usize,
+        correction: *const u8, correction_len: usize, key: *const u8, key_len: usize, check: *const u8, check_len: usize,
+        file: *mut u8, file_len: usize) -> u32;
 }
 
 /// Bytes that a call is lent, between guard bytes, in an allocation of their own. So a pointer to them is never dangling, even where
@@ -137,6 +146,8 @@ pub fn made(call: &Call, record: &mut Lent, ranges: &mut [Lent]) -> u32 {
                 r[2].0, r[2].1, r[3].0, r[3].1),
             Step::ReceiverAnswer => softspoken_receiver_answer(at, key, r[0].0, r[0].1, r[1].0, r[1].1, r[2].0, r[2].1, r[3].0, r[3].1),
             Step::SenderVerify => softspoken_sender_verify(at, key, r[0].0, r[0].1, r[1].0, r[1].1, r[2].0, r[2].1, r[3].0, r[3].1),
+            Step::FileWrite => softspoken_file_write(width, blocks, batch, r[0].0, r[0].1, r[1].0, r[1].1, r[2].0, r[2].1,
+                r[3].0, r[3].1, r[4].0, r[4].1),
         }
     };
     record.all = words.into_iter().flat_map(u64::to_ne_bytes).collect();

@@ -1,12 +1,12 @@
-//! Plays random calls of the library's eight functions, and compares every answer, record, number and byte with the twin. The calls are
-//! those of the steps; the reads of files come before them. Two batches whose numbers differ in the upper half alone are also compared
-//! with each other.
+//! Plays random calls of the library's nine functions, and compares every answer, record, number and byte with the twin. First files are
+//! read, then some are written, and then come the calls, which are those of the steps. A file that is taken is also written again, and one
+//! that is written is read. Two batches whose numbers differ in the upper half alone are also compared with each other.
 //!
-//! usage: differential [--seed N] [--files N] [--calls N] [--plant]
+//! usage: differential [--seed N] [--files N] [--writes N] [--calls N] [--plant]
 //!
 //! Run from the repository's root. Exit status 0 if the library and the twin agree and every answer was given; 1 if not. With --plant one
 //! bit of what the library leaves is altered, and the status is 1 if just that is reported, 2 if not. The files depend on the seed alone,
-//! and the calls on the seed and the number of files: fewer are the first ones.
+//! the writes on the seed and the number of files, and the calls on both numbers too: fewer are the first ones.
 
 mod apart;
 mod call;
@@ -20,6 +20,7 @@ mod sessions;
 mod singles;
 mod stored;
 mod twin;
+mod writes;
 
 use compare::Comparison;
 use std::process::exit;
@@ -27,6 +28,7 @@ use std::process::exit;
 struct Options {
     seed: u64,
     files: usize,
+    writes: usize,
     calls: usize,
     plant: bool,
 }
@@ -35,6 +37,7 @@ fn options() -> Option<Options> {
     let mut out = Options {
         seed: 8439,
         files: 10000,
+        writes: 10000,
         calls: 40000,
         plant: false,
     };
@@ -43,6 +46,7 @@ fn options() -> Option<Options> {
         match option.as_str() {
             "--seed" => out.seed = given.next()?.parse().ok()?,
             "--files" => out.files = given.next()?.parse().ok()?,
+            "--writes" => out.writes = given.next()?.parse().ok()?,
             "--calls" => out.calls = given.next()?.parse().ok()?,
             "--plant" => out.plant = true,
             _ => return None,
@@ -63,17 +67,21 @@ fn play(comparison: &mut Comparison) -> Option<()> {
 
 fn main() {
     let options = options().unwrap_or_else(|| {
-        eprintln!("usage: differential [--seed N] [--files N] [--calls N] [--plant]");
+        eprintln!("usage: differential [--seed N] [--files N] [--writes N] [--calls N] [--plant]");
         exit(2)
     });
     stored::published();
     stored::setups();
     stored::sessions();
     stored::files();
-    let mut comparison = Comparison::new(options.seed, options.files + options.calls, options.plant);
+    let mut comparison = Comparison::new(options.seed, options.files + options.writes + options.calls, options.plant);
     for _ in 0..options.files {
         files::play(&mut comparison);
     }
+    for _ in 0..options.writes {
+        writes::play(&mut comparison);
+    }
+    comparison.allow(options.calls);
     // so that no run is without them
     let mut played = apart::sweep(&mut comparison).and_then(|_| singles::sweep(&mut comparison));
     while played.is_some() {

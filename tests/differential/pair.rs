@@ -77,10 +77,10 @@ impl Pair {
     }
 }
 
-/// The side that takes a step, but for the open, which both take.
+/// The side that takes a step, but for the open and the writer, which both take.
 pub fn side_of(step: Step) -> usize {
     match step {
-        Step::ReceiverSetup | Step::ReceiverStart | Step::ReceiverAnswer | Step::Open => RECEIVER,
+        Step::ReceiverSetup | Step::ReceiverStart | Step::ReceiverAnswer | Step::Open | Step::FileWrite => RECEIVER,
         Step::SenderSetup | Step::SenderCorrect | Step::SenderVerify => SENDER,
     }
 }

@@ -131,51 +131,108 @@ fn session(width: u32, mut file: Stored) {
     file.end();
 }
 
-/// The files that the program files reads, and what it must print of each.
+/// What a record of the program files asks for.
+const READ: u8 = 1;
+const WRITE: u8 = 2;
+const AGAIN: u8 = 3;
+
+/// The files that the program files reads and writes, and what it must print of each.
 pub fn files() {
     let mut records = Stored::new("crates/files/stdin");
     let printed = Stored::new("crates/files/stdout").data;
     let mut lines = std::str::from_utf8(&printed).unwrap().lines();
-    let mut under = (u32::MAX, vec![]);
+    let mut derived = Derived::new(0);
     while !records.ended() {
-        let (kind, length) = (records.bytes(1), records.number() as usize);
-        assert!(kind == [1], "a record of another kind");
+        let (kind, length) = (records.bytes(1)[0], records.number() as usize);
         let end = records.at + length;
-        let (length, seed) = (records.number() as usize, records.number());
-        if under.0 != seed {
-            under = (seed, derived(seed));
-        }
-        let mut file = under.1[..length].to_vec();
-        while records.at < end {
-            let (at, count) = (records.number() as usize, records.number() as usize);
-            file[at..at + count].copy_from_slice(&records.bytes(count));
-        }
+        let line = match kind {
+            READ => told(&laid(&mut records, end, &mut derived)),
+            WRITE => written(&mut records, &mut derived),
+            AGAIN => written_again(&mut records, end, &mut derived),
+            _ => panic!("a record of another kind"),
+        };
         assert!(
-            records.at == end && lines.next() == Some(&told(&file)),
-            "file at {end} of the records"
+            records.at == end && lines.next() == Some(&line),
+            "record of kind {kind} that ends at {end}"
         );
     }
     assert!(lines.next().is_none(), "a line too many");
 }
 
-/// What a file of a record holds where it doesn't say so: as much as the program derives.
-fn derived(seed: u32) -> Vec<u8> {
-    (0..1921u32)
-        .flat_map(|j| sha256::digest(&[seed, 0, j].map(u32::to_le_bytes).concat()))
-        .collect()
+/// What a record's ranges hold where it doesn't say so, as much as the program derives: a file that is read, or the bodies of one that is
+/// to be written; and the range for that file.
+struct Derived {
+    seed: u32,
+    ranges: [Vec<u8>; 2],
+}
+
+impl Derived {
+    fn new(seed: u32) -> Derived {
+        let block = |number, j| sha256::digest(&[seed, number, j].map(u32::to_le_bytes).concat());
+        Derived {
+            seed,
+            ranges: [0, 1].map(|number| (0..1921).flat_map(|j| block(number, j)).collect()),
+        }
+    }
+
+    /// Many records in turn have the same seed.
+    fn of(&mut self, seed: u32) -> &[Vec<u8>; 2] {
+        if self.seed != seed {
+            *self = Derived::new(seed);
+        }
+        &self.ranges
+    }
+}
+
+/// A file that is read, of a record that ends there: its length and seed, and the parts that are sent.
+fn laid(records: &mut Stored, end: usize, derived: &mut Derived) -> Vec<u8> {
+    let (length, seed) = (records.number() as usize, records.number());
+    let mut file = derived.of(seed)[0][..length].to_vec();
+    while records.at < end {
+        let (at, count) = (records.number() as usize, records.number() as usize);
+        file[at..at + count].copy_from_slice(&records.bytes(count));
+    }
+    file
+}
+
+/// Values, the lengths of the bodies and of the range for the file, and a seed: the line that writing it gives.
+fn written(records: &mut Stored, derived: &mut Derived) -> String {
+    let (width, blocks, batch) = (records.number(), records.number(), records.long());
+    let lengths: [usize; 5] = std::array::from_fn(|_| records.number() as usize);
+    let [under, before] = derived.of(records.number());
+    let mut at = 0;
+    let bodies = [0, 1, 2, 3].map(|i| {
+        at += lengths[i];
+        &under[at - lengths[i]..at]
+    });
+    told_written(width, blocks, batch, bodies, &before[..lengths[4]])
+}
+
+/// The length of the range for the file, and then a file that is read: the line that writing what is found gives.
+fn written_again(records: &mut Stored, end: usize, derived: &mut Derived) -> String {
+    let length = records.number() as usize;
+    let data = laid(records, end, derived);
+    let found = file::read(&data);
+    let [setup, _, correction, key, check] = found.bodies(&data);
+    let before = &derived.ranges[1][..length];
+    told_written(found.width, found.blocks, found.batch, [setup, correction, key, check], before)
+}
+
+/// The answer, and the digest of the range for the file, which was this before.
+fn told_written(width: u32, blocks: u32, batch: u64, bodies: [&[u8]; 4], before: &[u8]) -> String {
+    let [setup, correction, key, check] = bodies;
+    let (answer, after) = file::write_batch(width, blocks, batch, [setup, correction, key, check, before]);
+    let digest = sha256::digest(after.first().map_or(before, Vec::as_slice));
+    hex(&[&[answer as u8][..], &digest].concat())
 }
 
 /// The line that a file gives: what reading finds, and of each kind from 0 to 6 the body that lies between its place and the next.
 fn told(data: &[u8]) -> String {
     let (found, mut line) = (file::read(data), vec![]);
-    let places = found.places().map(|place| place as usize);
     line.push(found.answer as u8);
     line.extend(found.bytes());
-    for kind in 0..=6 {
-        let body = match kind {
-            1..=5 => &data[places[kind - 1]..places[kind]],
-            _ => &[],
-        };
+    let [setup, head, correction, key, check] = found.bodies(data);
+    for body in [&[], setup, head, correction, key, check, &[]] {
         line.extend(&sha256::digest(body)[..8]);
         line.extend((body.len() as u64).to_le_bytes());
     }

@@ -8,14 +8,9 @@ use native.Mathlib.Decide.{decLt}
 use lib.ListN.{length, take, drop}
 use Rattle.words.specs.Bytes.{part}
 use Rattle.answer.specs.Answer.{isDone, whenDone}
-use Rattle.batchfile.specs.declared.Places.{Places}
-use Rattle.batchfile.specs.File.{countOf, lengthAt, placeAt, contentsRight, entryOf, bodyOf, readAnswer, placesOf, nowhere, placesFound, beginOf, endOf}
+use Rattle.batchfile.specs.File.{countOf, lengthAt, placeAt, contentsRight, entryOf, bodyOf, readAnswer, placesOf, nowhere, placesFound, bodyBetween}
 use Rattle.batchfile.proofs.Contents.{standing, place-more, none-below, none-above, body-is}
 use Rattle.batchfile.proofs.Reading.{read-all}
-
--- what stands between the places of a kind
-abbrev pub bodyBetween : (file : List ℕ) (p : Places) (kind : ℕ) → List ℕ
-bodyBetween file p kind = part (beginOf p (length file) kind) (endOf p (length file) kind - beginOf p (length file) kind) file
 
 -- nothing stands between a place and itself
 none-between : (file : List ℕ) (a e : ℕ) → a ≡ e → part a (e - a) file ≡ []

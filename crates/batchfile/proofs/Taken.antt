@@ -62,17 +62,18 @@ module _ (file : List ℕ) (right : contentsRight file ≡ true) where
       omega (arith, s .ends, ap (placeAt file) last, ap (placeAt file) first, place-first file, after 1 (omega arith) (omega arith), after 2 (omega arith) (omega arith), after 3 (omega arith) (omega arith), after 4 (omega arith) (omega arith), after 5 (omega arith) (omega arith))
 
 -- a setup has 8,192 bytes, or is absent
+pub setup-there : (file : List ℕ) → Taken file → countOf file ≡ 5 → length (bodyOf file 1) ≡ setupMessageLength
+setup-there file taken five =
+    eqb-true (length (bodyOf file 1)) setupMessageLength
+    (sym (ap (λ (n : ℕ). setupRight (present n 1) (length (bodyOf file 1))) five) ∙ taken-tells file taken .values .setup-long)
+
 pub setup-long : (file : List ℕ) → Taken file → (length (bodyOf file 1) ≡ 0) ⊎ (length (bodyOf file 1) ≡ setupMessageLength)
 setup-long file taken = here (ℕ-discrete (countOf file) 5)
   where
-    told : TakenTells file
-    told = taken-tells file taken
-
     here : Dec (countOf file ≡ 5) → (length (bodyOf file 1) ≡ 0) ⊎ (length (bodyOf file 1) ≡ setupMessageLength)
-    here (yes five) =
-        inr (eqb-true (length (bodyOf file 1)) setupMessageLength (sym (ap (λ (n : ℕ). setupRight (present n 1) (length (bodyOf file 1))) five) ∙ told .values .setup-long))
+    here (yes five) = inr (setup-there file taken five)
     here (no other) =
-        let n = standing file (told .right) .counts in
+        let n = standing file (taken-tells file taken .right) .counts in
         inl (ap length (none-below file 1 (omega (arith, n .most, other))))
 
 -- no correction is longer than that of width 1 and the most blocks

@@ -1,5 +1,5 @@
 // A batch on file: whether it may be read, its head, and where its bodies begin. Nothing of it is copied.
-mod values;
+pub mod values;
 
 use answer::Answer;
 ghost use mathlib.Core.Path.{_≡_};
@@ -37,7 +37,7 @@ pub struct Found {
 }
 
 // The length of the contents, which is where an entry after so many others begins, too.
-fn contents_length(count: usize) -> usize
+pub fn contents_length(count: usize) -> usize
     requires { ⌜ count ≤ 5 ⌝ }
     ensures { λ r. ⌜ r ≡ contentsLength count ⌝ }
 {

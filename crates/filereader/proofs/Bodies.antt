@@ -1,5 +1,5 @@
 -- What a reader hands out are the bodies of a file that is taken, and nothing after a refusal. Assumes nothing.
-use mathlib.Core.Path.{_≡_, refl, ap, _∙_}
+use mathlib.Core.Path.{_≡_, refl, sym, ap, _∙_}
 use mathlib.Core.Bool.{Bool, true, false}
 use mathlib.Core.List.{[]}
 use mathlib.Core.Logic.{_↔_, _≢_}
@@ -9,10 +9,13 @@ use lib.ListN.{length}
 use denote.Ref.{RefT, now}
 use Rattle.words.specs.Bytes.{Range}
 use Rattle.sizes.specs.Sizes.{checkMessageLength}
+use Rattle.answer.specs.declared.Answer.{Answer}
 use Rattle.answer.specs.declared.Answer.the-variants.{Done}
 use Rattle.answer.specs.Answer.{isDone, whenDone}
 use Rattle.answer.proofs.Order.{new-when, old-when, not-done}
-use Rattle.batchfile.specs.File.{bodyOf, readOrder, readAnswer, Taken}
+use Rattle.batchfile.specs.declared.FileHead.{FileHead}
+use Rattle.batchfile.specs.declared.Places.{Places}
+use Rattle.batchfile.specs.File.{bodyOf, readOrder, readAnswer, Taken, bodyBetween, ReadFile}
 use Rattle.batchfile.proofs.Bodies.{found-bodies}
 use Rattle.batchfile.proofs.Reading.{done-taken}
 use Rattle.batchfile.proofs.Taken.{taken-tells}
@@ -31,6 +34,11 @@ module _ (file : RefT Range) (kind : ℕ) (s : RefT Range) (out : HandsOut (read
       bytes-are
       ∙ old-when (readAnswer (now file)) (bodyOf (now file) kind) []
       (not-done (readOrder (now file)) (readAnswer (now file)) refl refl refused)
+
+-- what stands between the places that `batchfile::find` gives of a file is what the reader hands out
+pub between : (file : RefT Range) (kind : ℕ) (s : RefT Range) (answer : Answer) (head : FileHead) (places : Places)
+    → ReadFile (now file) answer head places → HandsOut (readerOver file) kind s → now s ≡ bodyBetween (now file) places kind
+between file kind s answer head places read out = out .bytes ∙ ap (λ (p : Places). bodyBetween (now file) p kind) (sym (read .placed))
 
 -- so the check that is handed out tells whether the file is taken: a check isn't empty
 pub joined : (file s : RefT Range) → HandsOut (readerOver file) 5 s → Taken (now file) ↔ (now s ≢ [])

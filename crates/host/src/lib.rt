@@ -6,6 +6,8 @@ ghost use mathlib.Core.Path.{_≡_};
 ghost use Rattle.answer.specs.Answer.{Numbered};
 ghost use Rattle.setup.specs.Setup.{ReceiverSetup, SenderSetup};
 ghost use Rattle.session.specs.Steps.{OpenSession, ReceiverStart, SenderCorrect, ReceiverAnswer, SenderVerify};
+ghost use Rattle.batchfile.specs.Laid.{headWith, bodiesWith};
+ghost use Rattle.filewriter.specs.Write.{WriteFile};
 ghost use Rattle.host.specs.File.{fileRead};
 
 // The receiver's setup. It returns the answer's number.
@@ -154,4 +156,22 @@ pub extern "C" fn softspoken_file_read(file: &[u8]) -> FileRead
         check: at.check as u64,
         end: file.len() as u64,
     }
+}
+
+// Writes a batch to a file. It returns the answer's number.
+#[no_mangle]
+pub extern "C" fn softspoken_file_write(
+    width: u32,
+    blocks: u32,
+    batch: u64,
+    setup: &[u8],
+    correction: &[u8],
+    key: &[u8],
+    check: &[u8],
+    file: &mut [u8],
+) -> u32
+    ensures { λ x. ⌜ Numbered (λ answer. WriteFile (headWith width blocks batch) (bodiesWith (now (setup .entry)) (now (correction .entry)) (now (key .entry)) (now (check .entry))) (now (file .entry)) answer (now (file .exit))) x ⌝ }
+{
+    let answer = filewriter::write(width, blocks, batch, setup, correction, key, check, file);
+    answer::number_of(answer)
 }

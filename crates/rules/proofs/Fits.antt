@@ -1,15 +1,17 @@
 -- What a step that is done tells of the numbers and the lengths that it was given. Assumes nothing.
 use mathlib.Core.Path.{_≡_, refl}
-use mathlib.Core.Bool.{Bool, true, _&&_, and-eq-true-iff}
+use mathlib.Core.Bool.{Bool, true, false, not, _&&_, _||_, and-eq-true-iff}
+use mathlib.Core.Logic.{_⊎_, inl, inr}
 use Prim.Native.Nat.{ℕ, _≤_, _<_}
+use native.Mathlib.Omega.{arith}
 use lib.Dec.{eqb}
-use borrow.Author.Tests.{eqb-true, ltb-true, eq-eqb}
+use borrow.Author.Tests.{eqb-true, ltb-true, eq-eqb, lt-ltb}
 use Rattle.answer.specs.Answer.{isDone, firstOf}
 use Rattle.answer.proofs.Order.{AllHold, all-hold}
-use Rattle.sizes.specs.Sizes.{widthAllowed, columnLength, deltaLength, rootsLength, siblingsLength, tableLength, correctionLength, checkMessageLength, receiverPadsLength, senderPadsLength, keyLength}
+use Rattle.sizes.specs.Sizes.{widthAllowed, columnLength, deltaLength, rootsLength, setupMessageLength, siblingsLength, tableLength, correctionLength, checkMessageLength, receiverPadsLength, senderPadsLength, keyLength}
 use Rattle.rules.specs.declared.Record.{Record}
 use Rattle.rules.specs.Orders.{mostBlocks, startOrder, correctOrder, answerOrder, beforeCheck, setupRight, bodiesRight, fileOrder}
-use Rattle.rules.proofs.Allowed.{blocks-fit}
+use Rattle.rules.proofs.Allowed.{blocks-fit, blocks-allowed}
 
 -- the receiver's start
 pub record StartTells (r : Record) (blocks roots choices table correction : ℕ) : Type 0 where
@@ -143,3 +145,33 @@ bodies-right width blocks there setup correction key check s k m e =
         and-eq-true-iff (eqb check checkMessageLength) (eqb correction named) .1 (eq-eqb check checkMessageLength m, eq-eqb correction named e),
       ),
     )
+
+-- so do all conditions
+pub file-holds : (width batch blocks : ℕ) (there : Bool) (setup correction key check : ℕ) → FileTells width batch blocks there setup correction key check
+    → AllHold (fileOrder width batch blocks there setup correction key check)
+file-holds width batch blocks there setup correction key check t = (
+  t .width-right,
+  (
+    lt-ltb 0 batch (t .some),
+    (
+      blocks-allowed blocks (t .least) (t .few),
+      (bodies-right width blocks there setup correction key check (t .setup-long) (t .key-long) (t .check-long) (t .correction-long), tt),
+    ),
+  ),
+)
+
+-- a setup that is there where it isn't empty has no bytes, or its length
+pub setup-either : (setup : ℕ) → setupRight (not (eqb setup 0)) setup ≡ true → (setup ≡ 0) ⊎ (setup ≡ setupMessageLength)
+setup-either setup = here (eqb setup 0) (eqb setup setupMessageLength) (eqb-true setup 0) (eqb-true setup setupMessageLength)
+  where
+    here : (none all : Bool) → (none ≡ true → setup ≡ 0) → (all ≡ true → setup ≡ setupMessageLength) → (not (not none) || all) ≡ true
+        → (setup ≡ 0) ⊎ (setup ≡ setupMessageLength)
+    here true all f g e = inl (f refl)
+    here false all f g e = inr (g e)
+
+pub setup-most : (setup : ℕ) → setupRight (not (eqb setup 0)) setup ≡ true → setup ≤ setupMessageLength
+setup-most setup right = here (setup-either setup right)
+  where
+    here : (setup ≡ 0) ⊎ (setup ≡ setupMessageLength) → setup ≤ setupMessageLength
+    here (inl e) = omega arith
+    here (inr e) = omega arith

@@ -1,6 +1,6 @@
 -- Widths, columns, trees, and the length of every byte range that a step is lent. Paper 01, 'Words and layouts' and 'Steps and their
--- turning away'; of a batch on file, paper 02, notes 1 and 3. Assumes nothing.
-use mathlib.Core.Bool.{Bool, _||_}
+-- turning away'; of a batch on file, paper 02, notes 1, 3 and 4. Assumes nothing.
+use mathlib.Core.Bool.{Bool, cond, _||_}
 use Prim.Native.Nat.{ℕ, _+_, _-_, _*_, _/_}
 use lib.Dec.{eqb}
 
@@ -84,3 +84,12 @@ shortHeadLength = 6
 -- the key, a 64-bit number
 abbrev pub keyLength : ℕ
 keyLength = 8
+
+-- four entries, or five with a setup; one of no bytes means none
+abbrev pub entriesWith : (setup : ℕ) → ℕ
+entriesWith setup = cond (eqb setup 0) 4 5
+
+-- a file that is written: the contents, the setup, the head, the correction, the key and the check message
+abbrev pub fileLength : (k blocks setup : ℕ) → ℕ
+fileLength k blocks setup =
+    contentsLength (entriesWith setup) + (setup + headLength + correctionLength k blocks + keyLength + checkMessageLength)

@@ -12,9 +12,10 @@ use Rattle.answer.proofs.Order.{old-when, cond-ap, eachRefusal, refusing, membe
 use Rattle.rules.specs.declared.Record.{Record}
 use Rattle.rules.specs.Orders.{closed}
 use Rattle.batchfile.specs.File.{headFound, placesFound, readOrder, readAnswer}
+use Rattle.filewriter.specs.Write.{writeAnswer}
 use Rattle.host.specs.declared.FileRead.{FileRead}
 use Rattle.host.specs.File.{fileRead}
-use Rattle.theorems.specs.Demand1.{Lent, ranges, session, Call, receiver-setup, sender-setup, open-session, receiver-start, sender-correct, receiver-answer, sender-verify, read-file, shut, Demand1}
+use Rattle.theorems.specs.Demand1.{Lent, ranges, session, Call, receiver-setup, sender-setup, open-session, receiver-start, sender-correct, receiver-answer, sender-verify, read-file, write-file, shut, Demand1}
 
 -- a call that can't fail the check, and that leaves what it was lent where it isn't done. The tests of its order compute
 plain : (ns : List ℕ) (cs : Order) (a : Answer) (before after : Lent) → a ≡ firstOf cs → (isDone a ≡ false → after ≡ before)
@@ -25,7 +26,7 @@ plain ns cs a before after e same listed r u = record {
 }
 
 pub demand1 : {refusals : List ℕ} {answer : Answer} {before after : Lent} → Call refusals answer before after → Demand1 refusals answer before after
-unfolding readAnswer
+unfolding readAnswer writeAnswer
 demand1 (receiver-setup {answer = a} p) =
     plain (1 ∷ 5 ∷ []) _ a _ _ (p .answered) (λ q. ap (λ (m : List ℕ). ranges (m ∷ [])) (p .written ∙ old-when a _ _ q)) refl refl refl
 demand1 (sender-setup {answer = a} p) =
@@ -52,6 +53,8 @@ demand1 (sender-verify {r} {pads = pads} {answer = a} p) = record {
       ∙ cond-ap (λ (x : Record). session x (pads ∷ [])) (eqb (number a) (number Check)) (closed r) r;
 }
 demand1 (read-file {file = file} {answer = a} p) = plain (7 ∷ 8 ∷ 1 ∷ 3 ∷ 4 ∷ 8 ∷ []) (readOrder file) a _ _ (p .answered) (λ q. refl) refl refl refl
+demand1 (write-file {answer = a} p) =
+    plain (1 ∷ 3 ∷ 4 ∷ 8 ∷ 5 ∷ []) _ a _ _ (p .answered) (λ q. ap (λ (m : List ℕ). ranges (m ∷ [])) (p .written ∙ old-when a _ _ q)) refl refl refl
 
 -- what C is given back of a file is told by such a call
 pub read-from-c : (file : Range) (x : FileRead) → x ≡ fileRead file

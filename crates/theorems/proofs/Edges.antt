@@ -11,7 +11,7 @@ use borrow.Author.Tests.{eq-eqb, ne-eqb, lt-ltb, le-ltb}
 use Rattle.words.specs.Bytes.{Range, part}
 use Rattle.words.specs.Xor.{xorList}
 use Rattle.words.proofs.Lists.{scale-zero, scale-one}
-use Rattle.sizes.specs.Sizes.{widthAllowed, columns, columnLength, correctionLength}
+use Rattle.sizes.specs.Sizes.{widthAllowed, columns, columnLength, correctionLength, fileLength}
 use Rattle.sizes.specs.Sizes.{deltaLength, rootsLength, siblingsLength, tableLength}
 use Rattle.answer.specs.declared.Answer.{Answer}
 use Rattle.answer.specs.declared.Answer.the-variants.{Done, Width, Stage, Batch, Blocks, Check, Body}
@@ -21,14 +21,17 @@ use Rattle.rows.specs.Row.{rowOf}
 use Rattle.pads.specs.Pads.{padOf, senderPads}
 use Rattle.rules.specs.declared.Record.{Record}
 use Rattle.rules.specs.Orders.{stageReady, stageOpen, blocksAllowed, batchFollows, receiverSetupOrder, senderSetupOrder, sessionOrder, batchOrder, endOrder}
-use Rattle.rules.specs.Orders.{startOrder, correctOrder, answerOrder, beforeCheck, verifyOrder, headRight}
+use Rattle.rules.specs.Orders.{startOrder, correctOrder, answerOrder, beforeCheck, verifyOrder, headOrder, headRight}
 use Rattle.rules.proofs.Allowed.{batch-follows}
-use Rattle.rules.proofs.Fits.{start-fits, correct-fits, answer-fits, verify-fits}
+use Rattle.rules.proofs.Fits.{start-fits, correct-fits, answer-fits, verify-fits, setup-either}
 use Rattle.setup.proofs.Answers.{receiver-fits, sender-fits}
 use Rattle.batchfile.specs.declared.FileHead.{FileHead}
 use Rattle.batchfile.specs.File.{contentsRight, bodyOf, headOf, readAnswer, Taken}
 use Rattle.batchfile.proofs.Reading.{head-next, values-next, head-cases}
 use Rattle.batchfile.proofs.Taken.{taken-tells, setup-long, longest}
+use Rattle.batchfile.specs.Laid.{Bodies}
+use Rattle.filewriter.specs.Write.{writeAnswer}
+use Rattle.filewriter.proofs.Done.{write-tells}
 use Rattle.theorems.specs.Demand2.{Ready}
 use Rattle.theorems.proofs.Demand2.{given-pad, start-allowed, correct-allowed}
 
@@ -104,6 +107,24 @@ file-sizes file taken =
     let head = head-cases (λ (n : ℕ). (n ≡ 10) ⊎ (n ≡ 6)) (inl refl) (inr refl) (length (bodyOf file 2)) (told .head-right) in
     (head, setup-long file taken, told .values .correction-long, told .values .key-long, told .values .check-long, longest file taken)
 
+-- and one that is written, with a setup and without: note 4
+pub write-sizes : (h : FileHead) (b : Bodies) (file : ℕ) → writeAnswer h b file ≡ Done
+    → ((length (b .setup) ≡ 0) × (file ≡ (4 + 12 * 4) + (10 + (128 / h .width - 1) * (8 * (h .blocks + 1)) + 8 + 1032)))
+    ⊎ ((length (b .setup) ≡ 8192) × (file ≡ (4 + 12 * 5) + (8192 + 10 + (128 / h .width - 1) * (8 * (h .blocks + 1)) + 8 + 1032)))
+write-sizes h b file done =
+    let told = write-tells h b file (ap isDone done) in
+    either (setup-either (length (b .setup)) (told .allowed .setup-long)) (told .exact)
+  where
+    either : (length (b .setup) ≡ 0) ⊎ (length (b .setup) ≡ 8192) → file ≡ fileLength (h .width) (h .blocks) (length (b .setup))
+        → ((length (b .setup) ≡ 0) × (file ≡ (4 + 12 * 4) + (10 + (128 / h .width - 1) * (8 * (h .blocks + 1)) + 8 + 1032)))
+        ⊎ ((length (b .setup) ≡ 8192) × (file ≡ (4 + 12 * 5) + (8192 + 10 + (128 / h .width - 1) * (8 * (h .blocks + 1)) + 8 + 1032)))
+    either (inl e) exact = inl (e, exact ∙ ap (fileLength (h .width) (h .blocks)) e ∙ omega arith)
+    either (inr e) exact = inr (e, exact ∙ ap (fileLength (h .width) (h .blocks)) e ∙ omega arith)
+
+-- k = 8, P = 1 without a setup and with one; k = 1, P = 15 without
+pub written-lengths : (fileLength 8 1 0 ≡ 1342) × (fileLength 8 1 8192 ≡ 9546) × (fileLength 1 15 0 ≡ 17358)
+written-lengths = (refl, refl, refl)
+
 -- ---- refusals
 
 -- width 3, with whatever else: 1. Of a session's steps, by its record, whatever is asked after it
@@ -167,7 +188,23 @@ file-head-outside file right not-long not-short =
     let n : ℕ = length (bodyOf file 2) in
     head-next file right (ap₂ _||_ (ne-eqb n 10 not-long) (ne-eqb n 6 not-short))
 
--- and one whose head has one of them: width 3, 1
+-- of head values: width 3, 1; P 0 or 16, 4. Whatever is asked after them
+module _ (h : FileHead) (rest : Order) where
+  head-width-three : h .width ≡ 3 → firstOf (headOrder (h .width) (h .batch) (h .blocks) ++ rest) ≡ Width
+  unfolding widthAllowed
+  head-width-three three = refused-at [] _ (widthAllowed (h .width)) Width tt (ap widthAllowed three)
+
+  head-blocks-outside : widthAllowed (h .width) ≡ true → 0 < h .batch → (h .blocks ≡ 0) ⊎ (h .blocks ≡ 16)
+      → firstOf (headOrder (h .width) (h .batch) (h .blocks) ++ rest) ≡ Blocks
+  head-blocks-outside allowed some which =
+      refused-at ((widthAllowed (h .width), Width) ∷ (ltb 0 (h .batch), Batch) ∷ []) rest (blocksAllowed (h .blocks)) Blocks
+      (allowed, (lt-ltb 0 (h .batch) some, tt)) (outside which)
+    where
+      outside : (h .blocks ≡ 0) ⊎ (h .blocks ≡ 16) → blocksAllowed (h .blocks) ≡ false
+      outside (inl e) = ap blocksAllowed e
+      outside (inr e) = ap blocksAllowed e
+
+-- so of a file whose head has one of its lengths
 module _ (file : Range) (right : contentsRight file ≡ true) (which : (length (bodyOf file 2) ≡ 10) ⊎ (length (bodyOf file 2) ≡ 6)) where
   head-right : headRight (length (bodyOf file 2)) ≡ true
   head-right = here which
@@ -177,22 +214,21 @@ module _ (file : Range) (right : contentsRight file ≡ true) (which : (length (
       here (inr e) = ap headRight e
 
   pub file-width-three : headOf file .width ≡ 3 → readAnswer file ≡ Width
-  unfolding widthAllowed
-  file-width-three three =
-      values-next file right head-right
-      ∙ refused-at [] _ (widthAllowed (headOf file .width)) Width tt (ap widthAllowed three)
+  file-width-three three = values-next file right head-right ∙ head-width-three (headOf file) _ three
 
-  -- P 0 or 16: 4
   pub file-blocks-outside : widthAllowed (headOf file .width) ≡ true → 0 < headOf file .batch → (headOf file .blocks ≡ 0) ⊎ (headOf file .blocks ≡ 16)
       → readAnswer file ≡ Blocks
-  file-blocks-outside allowed some which =
-      let h : FileHead = headOf file in
-      values-next file right head-right
-      ∙ refused-at ((widthAllowed (h .width), Width) ∷ (ltb 0 (h .batch), Batch) ∷ []) _ (blocksAllowed (h .blocks)) Blocks (allowed, (lt-ltb 0 (h .batch) some, tt)) (outside which)
-    where
-      outside : (headOf file .blocks ≡ 0) ⊎ (headOf file .blocks ≡ 16) → blocksAllowed (headOf file .blocks) ≡ false
-      outside (inl e) = ap blocksAllowed e
-      outside (inr e) = ap blocksAllowed e
+  file-blocks-outside allowed some outside = values-next file right head-right ∙ head-blocks-outside (headOf file) _ allowed some outside
+
+-- and of one that is to be written
+module _ (h : FileHead) (b : Bodies) (file : ℕ) where
+  pub write-width-three : h .width ≡ 3 → writeAnswer h b file ≡ Width
+  unfolding writeAnswer
+  write-width-three three = head-width-three h _ three
+
+  pub write-blocks-outside : widthAllowed (h .width) ≡ true → 0 < h .batch → (h .blocks ≡ 0) ⊎ (h .blocks ≡ 16) → writeAnswer h b file ≡ Blocks
+  unfolding writeAnswer
+  write-blocks-outside allowed some outside = head-blocks-outside h _ allowed some outside
 
 -- D = 0 is allowed: no step asks more of it than its length. The sender's two pads of a row are then equal
 pub zero-delta : (blocks batch j : ℕ) (table : List ℕ) → j < 64 * blocks

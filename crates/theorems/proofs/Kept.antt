@@ -19,6 +19,8 @@ use Rattle.session.specs.Steps.{OpenSession, ReceiverStart, SenderCorrect, Rece
 use Rattle.batchfile.specs.declared.FileHead.{FileHead}
 use Rattle.batchfile.specs.declared.Places.{Places}
 use Rattle.batchfile.specs.File.{readAnswer, headFound, placesFound, ReadFile}
+use Rattle.batchfile.specs.Laid.{Bodies}
+use Rattle.filewriter.specs.Write.{fileOf, writeAnswer, WriteFile}
 
 -- an answer and what the step leaves, of which its promise holds
 pub record Gives (A : Type 0) (P : Answer → A → Type 0) : Type 0 where
@@ -108,3 +110,8 @@ sender-verify-gives r key table delta message pads =
 pub read-file-gives : (file : Range) → Gives (FileHead × Places) (λ a found. ReadFile file a (found .0) (found .1))
 read-file-gives file =
     record { answer = readAnswer file; left = (headFound file, placesFound file); promised = record { answered = refl; headed = refl; placed = refl } }
+
+pub write-file-gives : (h : FileHead) (b : Bodies) (file : Range) → Gives Range (λ a f. WriteFile h b file a f)
+write-file-gives h b file =
+    let a : Answer = writeAnswer h b (length file) in
+    record { answer = a; left = whenDone a (fileOf h b) file; promised = record { answered = refl; written = refl } }

@@ -18,7 +18,9 @@ use Rattle.answer.specs.Answer.{Numbered}
 use Rattle.setup.specs.Setup.{ReceiverSetup, SenderSetup}
 use Rattle.session.specs.Steps.{OpenSession, ReceiverStart, SenderCorrect, ReceiverAnswer, SenderVerify}
 use Rattle.batchfile.specs.File.{ReadFile}
+use Rattle.batchfile.specs.Laid.{headWith, bodiesWith}
 use Rattle.filereader.specs.Reading.{readerOver, HandsOut}
+use Rattle.filewriter.specs.Write.{WriteFile}
 use Rattle.host.specs.File.{fileRead}
 use Rattle.host.proofs.softspoken_receiver_setup as softspoken-receiver-setup
 use Rattle.host.proofs.softspoken_receiver_setup.Statement as softspoken-receiver-setup-stated
@@ -65,9 +67,15 @@ use Rattle.session.proofs.sender_verify.Met as sender-verify-thm
 use Rattle.host.proofs.softspoken_file_read as softspoken-file-read
 use Rattle.host.proofs.softspoken_file_read.Statement as softspoken-file-read-stated
 use Rattle.host.proofs.softspoken_file_read.Met as softspoken-file-read-thm
+use Rattle.host.proofs.softspoken_file_write as softspoken-file-write
+use Rattle.host.proofs.softspoken_file_write.Statement as softspoken-file-write-stated
+use Rattle.host.proofs.softspoken_file_write.Met as softspoken-file-write-thm
 use Rattle.batchfile.proofs.find as find
 use Rattle.batchfile.proofs.find.Statement as find-stated
 use Rattle.batchfile.proofs.find.Met as find-thm
+use Rattle.filewriter.proofs.write as write
+use Rattle.filewriter.proofs.write.Statement as write-stated
+use Rattle.filewriter.proofs.write.Met as write-thm
 use Rattle.filereader.proofs.read as read
 use Rattle.filereader.proofs.read.Statement as read-stated
 use Rattle.filereader.proofs.read.Met as read-thm
@@ -116,6 +124,10 @@ module _ {M : Type 1} (𝓤 : URA M) (H : Heap 𝓤) (A : Atoms 𝓤) (mem : Mem
   pub softspoken-file-read-promises : Promises softspoken-file-read.ended (softspoken-file-read.clauses 𝓤 H A mem run) (λ κs a x e. x ≡ fileRead (now (a .0)))
   softspoken-file-read-promises = record { no-ghost = λ κs a. refl; no-requires = λ κs a g. refl; ensured = λ κs a g x e. refl }
 
+  -- and its writer an answer again
+  pub softspoken-file-write-promises : Promises softspoken-file-write.ended (softspoken-file-write.clauses 𝓤 H A mem run) (λ κs a x e. Numbered (λ answer. WriteFile (headWith (a .0) (a .1 .0) (a .1 .1 .0)) (bodiesWith (now (a .1 .1 .1 .0)) (now (a .1 .1 .1 .1 .0)) (now (a .1 .1 .1 .1 .1 .0)) (now (a .1 .1 .1 .1 .1 .1 .0))) (now (a .1 .1 .1 .1 .1 .1 .1 .0)) answer (now (e .1 .1 .1 .1 .1 .1 .1 .0))) x)
+  softspoken-file-write-promises = record { no-ghost = λ κs a. refl; no-requires = λ κs a g. refl; ensured = λ κs a g x e. refl }
+
   -- ---- the same steps by value
 
   pub receiver-setup-promises : Promises receiver-setup.ended (receiver-setup.clauses 𝓤 H A mem run) (λ κs a x e. ReceiverSetup (a .0) (now (a .1 .0)) (now (a .1 .1 .0)) (now (a .1 .1 .1 .0)) x (now (e .1 .1 .1 .0)))
@@ -141,6 +153,9 @@ module _ {M : Type 1} (𝓤 : URA M) (H : Heap 𝓤) (A : Atoms 𝓤) (mem : Mem
 
   pub find-promises : Promises find.ended (find.clauses 𝓤 H A mem run) (λ κs a x e. ReadFile (now (a .0)) (x .answer) (x .head) (x .places))
   find-promises = record { no-ghost = λ κs a. refl; no-requires = λ κs a g. refl; ensured = λ κs a g x e. refl }
+
+  pub write-promises : Promises write.ended (write.clauses 𝓤 H A mem run) (λ κs a x e. WriteFile (headWith (a .0) (a .1 .0) (a .1 .1 .0)) (bodiesWith (now (a .1 .1 .1 .0)) (now (a .1 .1 .1 .1 .0)) (now (a .1 .1 .1 .1 .1 .0)) (now (a .1 .1 .1 .1 .1 .1 .0))) (now (a .1 .1 .1 .1 .1 .1 .1 .0)) x (now (e .1 .1 .1 .1 .1 .1 .1 .0)))
+  write-promises = record { no-ghost = λ κs a. refl; no-requires = λ κs a g. refl; ensured = λ κs a g x e. refl }
 
   -- ---- the reader that hands out a file's bodies
 
@@ -200,8 +215,14 @@ sender-verify-meets = sender-verify-thm.met
 pub softspoken-file-read-meets : {M : Type 1} → softspoken-file-read-stated.statement M
 softspoken-file-read-meets = softspoken-file-read-thm.met
 
+pub softspoken-file-write-meets : {M : Type 1} → softspoken-file-write-stated.statement M
+softspoken-file-write-meets = softspoken-file-write-thm.met
+
 pub find-meets : {M : Type 1} → find-stated.statement M
 find-meets = find-thm.met
+
+pub write-meets : {M : Type 1} → write-stated.statement M
+write-meets = write-thm.met
 
 pub read-meets : {M : Type 1} → read-stated.statement M
 read-meets = read-thm.met

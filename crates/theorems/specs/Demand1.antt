@@ -15,6 +15,8 @@ use Rattle.session.specs.Steps.{OpenSession, ReceiverStart, SenderCorrect, Rece
 use Rattle.batchfile.specs.declared.FileHead.{FileHead}
 use Rattle.batchfile.specs.declared.Places.{Places}
 use Rattle.batchfile.specs.File.{ReadFile}
+use Rattle.batchfile.specs.Laid.{Bodies}
+use Rattle.filewriter.specs.Write.{WriteFile}
 
 -- what a step is lent and may alter: the record of a session, which the setups have not, and the byte ranges out. (A range in is lent to
 -- be read: its type lets no step write there.)
@@ -50,6 +52,9 @@ pub data Call : List ℕ → Answer → Lent → Lent → Type 0 where
   -- paper 02, notes 1 and 3: 7; 8 for a head of neither length; 1, 3 and 4 on the head; last 8. It is lent nothing to write
   read-file : {file : Range} {head : FileHead} {places : Places} {answer : Answer} → ReadFile file answer head places
       → Call (7 ∷ 8 ∷ 1 ∷ 3 ∷ 4 ∷ 8 ∷ []) answer (ranges []) (ranges [])
+  -- note 4: 1, 3, 4 and 8 as the reader, then 5
+  write-file : {h : FileHead} {b : Bodies} {file file′ : Range} {answer : Answer} → WriteFile h b file answer file′
+      → Call (1 ∷ 3 ∷ 4 ∷ 8 ∷ 5 ∷ []) answer (ranges (file ∷ [])) (ranges (file′ ∷ []))
 
 -- what a failed check leaves: the record closed, and all ranges as they were
 abbrev pub shut : Lent → Lent

@@ -1,9 +1,9 @@
-//! A batch on file, for any bytes: paper 02, notes 1 and 3.
+//! A batch on file, for any bytes: paper 02, notes 1, 3 and 4.
 //!
 //! A file has its contents, then its bodies: of the kinds in order, of which the setup may be absent. The names are those of setup.rs.
 
 use super::batch::{BATCH, BLOCKS};
-use super::setup::{DONE, WIDTH, WIDTHS};
+use super::setup::{DONE, LENGTH, WIDTH, WIDTHS};
 use super::sizes;
 use crate::library::File;
 
@@ -24,7 +24,7 @@ pub struct Entry {
     pub length: u32,
 }
 
-// Writing, also what isn't to be read.
+// Laying a file, also what isn't to be read.
 
 pub fn head_body(width: u8, blocks: u8, batch: u64) -> Vec<u8> {
     [&[width, blocks][..], &batch.to_le_bytes()].concat()
@@ -114,19 +114,24 @@ fn answer_to(entries: &[Entry], head: &[u8]) -> (u32, u32, u32, u64) {
         return (BODY, 0, 0, 0);
     }
     let (width, blocks, batch) = head_in(head);
-    let right = |entry: &Entry| entry.length as usize == body_length(width as usize, blocks as usize, entry.kind);
-    let answer = if !WIDTHS.contains(&width) {
+    let others = entries.iter().filter(|entry| entry.kind != HEAD);
+    let answer = answer_by(width, blocks, batch, others.map(|entry| (entry.kind, entry.length as usize)));
+    (answer, width, blocks, batch)
+}
+
+/// The answer that the head's values get, and then the other bodies, of which each kind is given with the body's length.
+fn answer_by(width: u32, blocks: u32, batch: u64, mut others: impl Iterator<Item = (u32, usize)>) -> u32 {
+    if !WIDTHS.contains(&width) {
         WIDTH
     } else if batch == 0 {
         BATCH
     } else if !(1..=15).contains(&blocks) {
         BLOCKS
-    } else if !entries.iter().filter(|entry| entry.kind != HEAD).all(right) {
+    } else if !others.all(|(kind, length)| length == body_length(width as usize, blocks as usize, kind)) {
         BODY
     } else {
         DONE
-    };
-    (answer, width, blocks, batch)
+    }
 }
 
 /// An absent setup begins where the head does. Of a file that is refused nothing is handed out: the head's values are 0, and every place
@@ -170,4 +175,32 @@ fn refused(answer: u32, file: &[u8]) -> File {
         check: end,
         end,
     }
+}
+
+// Writing, always with the long head.
+
+/// Setup, correction, key, check, file.
+pub fn write_lengths(width: usize, blocks: usize) -> [usize; 5] {
+    let [setup, correction, key, check] = [SETUP, CORRECTION, KEY, CHECK].map(|kind| body_length(width, blocks, kind));
+    [setup, correction, key, check, sizes::file_length(width, blocks, setup)]
+}
+
+/// A setup without bytes is none.
+pub fn write_batch(width: u32, blocks: u32, batch: u64, ranges: [&[u8]; 5]) -> (u32, Vec<Vec<u8>>) {
+    let [setup, correction, key, check, file] = ranges;
+    let mut bodies = vec![(CORRECTION, correction), (KEY, key), (CHECK, check)];
+    if !setup.is_empty() {
+        bodies.push((SETUP, setup));
+    }
+    let answer = answer_by(width, blocks, batch, bodies.iter().map(|(kind, body)| (*kind, body.len())));
+    if answer != DONE {
+        return (answer, vec![]);
+    }
+    if file.len() != sizes::file_length(width as usize, blocks as usize, setup.len()) {
+        return (LENGTH, vec![]);
+    }
+    let mut bodies: Vec<(u32, Vec<u8>)> = bodies.into_iter().map(|(kind, body)| (kind, body.to_vec())).collect();
+    bodies.push((HEAD, head_body(width as u8, blocks as u8, batch)));
+    bodies.sort();
+    (DONE, vec![write(&bodies)])
 }

@@ -1,0 +1,3 @@
+pub mod Laying
+pub mod Done
+pub mod RoundTrip
