@@ -1,6 +1,6 @@
 /* Times the proved functions beside plain C, and the steps of a batch also beside the fastest C, in one run: the kinds of a row in
    turn, the least of many passes. Outputs are compared first. Writes a line for each row, with tabs between: here "work", name,
-   nanoseconds of plain C and proved, goal of their ratio; for the steps see steps.h. bench/report.py reads them. */
+   nanoseconds of plain C and proved, goal of their ratio or TOLD; for the steps see steps.h. bench/report.py reads them. */
 #include "../include/softspoken.h"
 #include "../tests/file.h"
 #include "bench.h"
@@ -11,6 +11,7 @@
 #include <string.h>
 
 enum { COLUMNS = 128, LENGTH = 128, BLOCKS = 15 };
+enum { TOLD = 0 }; /* in the place of a goal */
 
 static uint8_t key[4][32], nonce[12], message[1024], table_bytes[COLUMNS * LENGTH];
 static uint8_t roots[4096], delta[16], pads[8192], totals[8192];
@@ -104,6 +105,36 @@ static void file_with(unsigned i, struct softspoken_file (*read)(const uint8_t *
 static void file_plain(unsigned i) { file_with(i, plain_file_read); }
 static void file_proved(unsigned i) { file_with(i, softspoken_file_read); }
 
+/* What travelled in a batch, and a range for the file, with room for other lengths. */
+enum { SETUP, CORRECTION, KEY, CHECK, BODIES, ROOM = 1 << 15 };
+static uint8_t travelled[BODIES][ROOM / 2], written[ROOM];
+
+struct shape { uint32_t width, blocks; size_t len[BODIES], file_len; };
+#define SHAPE(width, blocks, setup) \
+    {width, blocks, {setup, SOFTSPOKEN_CORRECTION_BYTES(width, blocks), SOFTSPOKEN_FILE_KEY_BYTES, SOFTSPOKEN_CHECK_MESSAGE_BYTES}, \
+     SOFTSPOKEN_FILE_BYTES(width, blocks, setup)}
+
+static uint32_t write_with(write_file *write, const struct shape *s, uint64_t batch) {
+    return write(s->width, s->blocks, batch, travelled[SETUP], s->len[SETUP], travelled[CORRECTION], s->len[CORRECTION], travelled[KEY],
+                 s->len[KEY], travelled[CHECK], s->len[CHECK], written, s->file_len);
+}
+
+/* The longest file and the shortest: k = 8, P = 1, without a setup. The batch number depends on i. */
+static void longest_with(unsigned i, write_file *write) {
+    static const struct shape longest = SHAPE(1, SOFTSPOKEN_BLOCKS_MAX, SOFTSPOKEN_SETUP_MESSAGE_BYTES);
+    sink ^= write_with(write, &longest, (i + 1) * 0x100000001) ^ written[0];
+}
+static void shortest_with(unsigned i, write_file *write) {
+    static const struct shape shortest = SHAPE(8, 1, 0);
+    sink ^= write_with(write, &shortest, (i + 1) * 0x100000001) ^ written[0];
+}
+static void longest_plain(unsigned i) { longest_with(i, plain_file_write); }
+static void longest_memcpy(unsigned i) { longest_with(i, memcpy_file_write); }
+static void longest_proved(unsigned i) { longest_with(i, softspoken_file_write); }
+static void shortest_plain(unsigned i) { shortest_with(i, plain_file_write); }
+static void shortest_memcpy(unsigned i) { shortest_with(i, memcpy_file_write); }
+static void shortest_proved(unsigned i) { shortest_with(i, softspoken_file_write); }
+
 /* Units are what the times are divided by: blocks, hashes, words. */
 struct row { const char *name; work_once *plain; double plain_units; work_once *proved; double units, goal; };
 
@@ -122,6 +153,10 @@ static const struct row rows[] = {
     {"sender setup, k = 8", sender8_plain, 1, sender8_proved, 1, 0.6},
     {"sender setup, k = 1", sender1_plain, 1, sender1_proved, 1, 0.6},
     {"batch file read", file_plain, 1, file_proved, 1, 1.0},
+    {"batch file write, longest", longest_plain, 1, longest_proved, 1, 1.0},
+    {"the longest, beside memcpy", longest_memcpy, 1, longest_proved, 1, TOLD},
+    {"batch file write, shortest", shortest_plain, 1, shortest_proved, 1, 1.0},
+    {"the shortest, beside memcpy", shortest_memcpy, 1, shortest_proved, 1, TOLD},
 };
 enum { ROWS = sizeof rows / sizeof *rows };
 
@@ -203,6 +238,35 @@ static void compare_files(void) {
     }
 }
 
+/* Calls that are right, at every width and number of blocks, with a setup and without; and as many with one fault or more: a bit of the
+   width, the blocks, a body's length or the file's length flipped, or batch 0. The range starts alike for each writer. What lies behind
+   the file stays, and after a refusal all of it. */
+static void compare_writes(void) {
+    static write_file *const writers[] = {plain_file_write, memcpy_file_write, softspoken_file_write};
+    static uint8_t before[ROOM], first[ROOM];
+    fill(travelled, sizeof travelled); fill(before, sizeof before);
+    for (uint32_t n = 0; n < 6000; n++) {
+        uint32_t width = 1u << n % 4, blocks = 1 + n / 4 % 15, setup = n / 60 % 2 * SOFTSPOKEN_SETUP_MESSAGE_BYTES, answer = 0;
+        struct shape s = SHAPE(width, blocks, setup);
+        uint64_t batch = 1 + (random64() >> random64() % 64);
+        unsigned faults = n / 120 % 2 ? 1 + random64() % 31 : 0;
+        if (faults & 1) s.width ^= 1u << random64() % 32;
+        if (faults & 2) batch = 0;
+        if (faults & 4) s.blocks ^= 1u << random64() % 32;
+        if (faults & 8) s.len[random64() % BODIES] ^= 1u << random64() % 14;
+        if (faults & 16) s.file_len ^= 1u << random64() % 15;
+        for (unsigned w = 0; w < sizeof writers / sizeof *writers; w++) {
+            memcpy(written, before, ROOM);
+            uint32_t told = write_with(writers[w], &s, batch);
+            if (w == 0) answer = told, memcpy(first, written, ROOM);
+            expect(told == answer && !memcmp(written, first, ROOM), "batch file write");
+        }
+        size_t laid = answer == SOFTSPOKEN_DONE ? s.file_len : 0;
+        expect((answer == SOFTSPOKEN_DONE) == !faults, "batch file write, answer");
+        expect(!memcmp(first + laid, before + laid, ROOM - laid), "batch file write, what stays");
+    }
+}
+
 static void time_rows(void) {
     static struct timed plain[ROWS], proved[ROWS];
     fill(table_bytes, sizeof table_bytes);
@@ -222,6 +286,7 @@ int main(void) {
     compare_rows();
     compare_setups();
     compare_files();
+    compare_writes();
     compare_steps();
     time_rows();
     time_steps();

@@ -325,3 +325,71 @@ struct softspoken_file plain_file_read(const uint8_t *file, size_t len) {
     return (struct softspoken_file){SOFTSPOKEN_DONE, width, blocks, batch, begin[SETUP], begin[HEAD], begin[CORRECTION], begin[KEY],
                                     begin[CHECK], len};
 }
+
+/* Writing one: the rules first, then contents and bodies together */
+
+typedef void copy_bytes(uint8_t *to, const uint8_t *from, size_t n);
+
+/* Byte by byte; gcc looks whether the two overlap, and moves 16 bytes at once. Where the loop lies across two cache lines, or is in one
+   function with the rest and runs out of registers, it takes half as long again: no fair comparison. */
+__attribute__((noinline, aligned(64))) static void lay(uint8_t *to, const uint8_t *from, size_t n) {
+    for (size_t i = 0; i < n; i++) to[i] = from[i];
+}
+
+/* The C library's always: gcc has slower code of its own for a length that it knows. */
+__attribute__((noinline)) static void lay_memcpy(uint8_t *to, const uint8_t *from, size_t n) { memcpy(to, from, n); }
+
+static void store_le(uint8_t *p, int bytes, uint64_t x) {
+    for (int j = 0; j < bytes; j++) p[j] = x >> 8 * j;
+}
+
+/* Where the next entry and the next body go. */
+struct place { uint8_t *file, *entry, *body; };
+
+static inline void add_body(struct place *to, copy_bytes *copy, uint32_t kind, struct softspoken_body from) {
+    store_le(to->entry, 4, kind);
+    store_le(to->entry + 4, 4, to->body - to->file);
+    store_le(to->entry + 8, 4, from.len);
+    copy(to->body, from.bytes, from.len);
+    to->entry += 12;
+    to->body += from.len;
+}
+
+static inline uint32_t write_by(copy_bytes *copy, uint32_t width, uint32_t blocks, uint64_t batch, struct softspoken_body setup,
+                                struct softspoken_body correction, struct softspoken_body key, struct softspoken_body check,
+                                uint8_t *file, size_t len) {
+    if (width != 1 && width != 2 && width != 4 && width != 8) return SOFTSPOKEN_ERR_WIDTH;
+    if (batch == 0) return SOFTSPOKEN_ERR_BATCH;
+    if (blocks < 1 || blocks > 15) return SOFTSPOKEN_ERR_BLOCKS;
+    if ((setup.len != 0 && setup.len != 8192) || correction.len != (128 / width - 1) * 8 * (blocks + 1) || key.len != 8 ||
+        check.len != 1032)
+        return SOFTSPOKEN_ERR_BODY;
+    uint32_t count = setup.len ? 5 : 4;
+    if (len != 4 + 12 * count + setup.len + 10 + correction.len + 8 + 1032) return SOFTSPOKEN_ERR_LENGTH;
+    struct place to = {file, file + 4, file + 4 + 12 * count};
+    uint8_t head[10] = {width, blocks};
+    store_le(head + 2, 8, batch);
+    store_le(file, 4, count);
+    if (setup.len) add_body(&to, copy, SOFTSPOKEN_FILE_SETUP, setup);
+    add_body(&to, copy, SOFTSPOKEN_FILE_HEAD, (struct softspoken_body){head, 10});
+    add_body(&to, copy, SOFTSPOKEN_FILE_CORRECTION, correction);
+    add_body(&to, copy, SOFTSPOKEN_FILE_KEY, key);
+    add_body(&to, copy, SOFTSPOKEN_FILE_CHECK, check);
+    return SOFTSPOKEN_DONE;
+}
+
+uint32_t plain_file_write(uint32_t width, uint32_t blocks, uint64_t batch, const uint8_t *setup, size_t setup_len,
+                          const uint8_t *correction, size_t correction_len, const uint8_t *key, size_t key_len, const uint8_t *check,
+                          size_t check_len, uint8_t *file, size_t len) {
+    return write_by(lay, width, blocks, batch, (struct softspoken_body){setup, setup_len},
+                    (struct softspoken_body){correction, correction_len}, (struct softspoken_body){key, key_len},
+                    (struct softspoken_body){check, check_len}, file, len);
+}
+
+uint32_t memcpy_file_write(uint32_t width, uint32_t blocks, uint64_t batch, const uint8_t *setup, size_t setup_len,
+                           const uint8_t *correction, size_t correction_len, const uint8_t *key, size_t key_len, const uint8_t *check,
+                           size_t check_len, uint8_t *file, size_t len) {
+    return write_by(lay_memcpy, width, blocks, batch, (struct softspoken_body){setup, setup_len},
+                    (struct softspoken_body){correction, correction_len}, (struct softspoken_body){key, key_len},
+                    (struct softspoken_body){check, check_len}, file, len);
+}

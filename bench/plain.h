@@ -25,3 +25,8 @@ void plain_rows(unsigned blocks, const uint8_t *table, uint8_t *rows);
 void block8_rows(unsigned blocks, const uint8_t *table, uint8_t *rows);
 /* Any file: the answer, the head's values and the places, as include/softspoken.h names them. */
 struct softspoken_file plain_file_read(const uint8_t *file, size_t len);
+/* Any numbers, lengths and ranges, as softspoken_file_write takes them: each body byte by byte, and by memcpy. */
+typedef uint32_t write_file(uint32_t width, uint32_t blocks, uint64_t batch, const uint8_t *setup, size_t setup_len,
+                            const uint8_t *correction, size_t correction_len, const uint8_t *key, size_t key_len, const uint8_t *check,
+                            size_t check_len, uint8_t *file, size_t file_len);
+write_file plain_file_write, memcpy_file_write;

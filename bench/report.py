@@ -1,6 +1,6 @@
 """Turns the lines of the benchmark (standard input) into tables in Markdown. With --write it also writes docs/SPEED.md and docs/speed.svg.
 
-Ends with 1 where a proved function is slower than plain C; a missed goal is only told."""
+Ends with 1 where a proved function is slower than plain C; a missed goal is only told, and so is a row whose goal is 0."""
 import datetime
 import html
 import math
@@ -19,6 +19,7 @@ TRANSFERS = 960                  # of a batch of 15 blocks
 PAIRS, BATCHES = 46, 300         # of the firm; batches of a pair a day
 COLUMN = 128                     # bytes, at 15 blocks
 CHECK_MESSAGE, KEY = 1032, 8     # bytes
+WRITTEN = {"longest": 25562, "shortest": 1342}    # bytes of the files that are written
 
 
 class Row:
@@ -42,7 +43,13 @@ def table(heads, lines):
 
 def work_table(rows):
     return table(["Work", "plain C, ns", "proved, ns", "proved/plain", "goal"],
-                 [[r.name, *(f"{t:.1f}" for t in r.times), f"{r.ratio:.2f}", f"{r.goal:.2f}"] for r in rows if r.what == "work"])
+                 [[r.name, *(f"{t:.1f}" for t in r.times), f"{r.ratio:.2f}", f"{r.goal:.2f}" if r.goal else "told"]
+                  for r in rows if r.what == "work"])
+
+
+def write_rate(rows, which):
+    """Of the proved writer, in MB a second."""
+    return next(f"{WRITTEN[which] * 1e3 / r.times[-1]:,.0f}" for r in rows if r.name == f"batch file write, {which}")
 
 
 def step_table(rows, what, head):
@@ -92,10 +99,12 @@ The answer and the verify do the same work at every width.
 
 ## Primitives, rows, setups and files
 
-{wrap('''The forms that do four at once are compared with plain C's one at a time. The sender's setup at k = 1 makes no node, so that row is
+{wrap(f'''The forms that do four at once are compared with plain C's one at a time. The sender's setup at k = 1 makes no node, so that row is
 exclusive or alone. The rows of a batch are its 960 row values without their hashes: plain C divides for the place of each bit, and in the row
-below it C transposes 8 × 8 bits at once. The batch file is the longest, of k = 1 and P = 15 with a setup; both look at every rule, and copy
-nothing.''')}
+below it C transposes 8 × 8 bits at once. The batch file that is read is the longest, of k = 1 and P = 15 with a setup; both look at every
+rule, and copy nothing. Written are the longest, {WRITTEN["longest"]:,} bytes, and the shortest, of k = 8 and P = 1 without a setup,
+{WRITTEN["shortest"]:,} bytes: proved at {write_rate(rows, "longest")} and {write_rate(rows, "shortest")} MB a second. Plain C lays them
+byte by byte in the source, and gcc makes moves of 16 bytes of that. Beside C that calls memcpy the ratio is told, without a goal.''')}
 
 {work_table(rows)}
 
@@ -218,8 +227,9 @@ def main():
     if "--write" in sys.argv:
         (DOCS / "SPEED.md").write_text(document(rows))
         (DOCS / "speed.svg").write_text(plot(rows))
-    slower = [r for r in rows if r.ratio > 1]
-    for r in rows:
+    held = [r for r in rows if r.goal]
+    slower = [r for r in held if r.ratio > 1]
+    for r in held:
         if r.ratio > r.goal:
             print(f"goal missed: {r}: {r.ratio:.3f}, goal {r.goal:.2f}", file=sys.stderr)
     for r in slower:
