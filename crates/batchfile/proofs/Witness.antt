@@ -9,7 +9,7 @@ use native.Mathlib.Omega.{arith}
 use lib.Dec.{eqb}
 use lib.ListN.{length, getD}
 use Rattle.words.specs.Bytes.{Range, Bytes, bytes, concat}
-use Rattle.words.proofs.Concat.{append-lt, concat-lt}
+use Rattle.words.proofs.Concat.{append-bytes, concat-lt}
 use Rattle.words.proofs.Numbers.{bytes-lt}
 use Rattle.answer.specs.declared.Answer.the-variants.{Body}
 use Rattle.answer.specs.Answer.{firstOf}
@@ -57,22 +57,19 @@ unfolding fileWith laid
 laid-bytes head h b setup correction key check =
     let n : ℕ = entriesWith (length (b .setup)) in
     let size : ℕ → ℕ = λ e. length (bodyFor (headBytes head h) b (kindOf n e)) in
-    joined (contentsIn n size) (concat n (λ e. bodyFor (headBytes head h) b (kindOf n e)))
-    (joined (bytes 4 n) (concat n (entryIn n size)) (bytes-lt 4 n) (concat-lt n (entryIn n size) 256 (zero-lt-suc 255) (entry n size)))
+    append-bytes (contentsIn n size) (concat n (λ e. bodyFor (headBytes head h) b (kindOf n e)))
+    (append-bytes (bytes 4 n) (concat n (entryIn n size)) (bytes-lt 4 n) (concat-lt n (entryIn n size) 256 (zero-lt-suc 255) (entry n size)))
     (concat-lt n (λ e. bodyFor (headBytes head h) b (kindOf n e)) 256 (zero-lt-suc 255) (λ e. body (kindOf n e - 1)))
   where
-    joined : (s t : Range) → Bytes s → Bytes t → Bytes (s ++ t)
-    joined s t x y = append-lt s t 256 x y
-
     entry : (n : ℕ) (size : ℕ → ℕ) (e : ℕ) → Bytes (entryIn n size e)
     entry n size e =
-        joined (bytes 4 (kindOf n e)) (bytes 4 (placeIn n size e) ++ bytes 4 (size e)) (bytes-lt 4 (kindOf n e))
-        (joined (bytes 4 (placeIn n size e)) (bytes 4 (size e)) (bytes-lt 4 (placeIn n size e)) (bytes-lt 4 (size e)))
+        append-bytes (bytes 4 (kindOf n e)) (bytes 4 (placeIn n size e) ++ bytes 4 (size e)) (bytes-lt 4 (kindOf n e))
+        (append-bytes (bytes 4 (placeIn n size e)) (bytes 4 (size e)) (bytes-lt 4 (placeIn n size e)) (bytes-lt 4 (size e)))
 
     numbers : Bytes (headBytes head h)
     numbers =
-        joined (bytes 1 (h .width)) (bytes 1 (h .blocks) ++ bytes (head - 2) (h .batch)) (bytes-lt 1 (h .width))
-        (joined (bytes 1 (h .blocks)) (bytes (head - 2) (h .batch)) (bytes-lt 1 (h .blocks)) (bytes-lt (head - 2) (h .batch)))
+        append-bytes (bytes 1 (h .width)) (bytes 1 (h .blocks) ++ bytes (head - 2) (h .batch)) (bytes-lt 1 (h .width))
+        (append-bytes (bytes 1 (h .blocks)) (bytes (head - 2) (h .batch)) (bytes-lt 1 (h .blocks)) (bytes-lt (head - 2) (h .batch)))
 
     body : (i : ℕ) → Bytes (getD (b .setup ∷ headBytes head h ∷ b .correction ∷ b .key ∷ b .check ∷ []) i [])
     body zero = setup

@@ -23,7 +23,7 @@ use Rattle.batchfile.proofs.Batch.{Allowed, valuesFor, headBytes-length, head-b
 use Rattle.batchfile.proofs.Again.{head-again, head-bytes, same-count, taken-is-laid, taken-allowed, batch-fits}
 use Rattle.batchfile.proofs.Witness.{Holds, laid-holds}
 use Rattle.filewriter.specs.Write.{fileOf, lengthOf, writeAnswer, WriteFile}
-use Rattle.filewriter.specs.RoundTrip.{handedOut, LongHead, GivesBack, WrittenReads, ReadBack, SameBytes, AbsentEmpty, AsTheReader, WrittenAgain}
+use Rattle.filewriter.specs.RoundTrip.{handedOut, LongHead, GivesBack, ReadsAs, WrittenReads, ReadBack, SameBytes, AbsentEmpty, AsTheReader, WrittenAgain}
 use Rattle.filewriter.proofs.Done.{file-long, write-tells, write-done}
 
 -- ---- what the reader's promise tells of a file that it takes
@@ -80,8 +80,7 @@ gives-back h b file answer head p holds r =
     }
 
 -- so does the file of values and bodies that are allowed
-written-back : (h : FileHead) (b : Bodies) → Allowed h b → h .batch < 2 ^ 64 → (file : Range) → file ≡ fileOf h b
-    → (answer : Answer) (head : FileHead) (p : Places) → ReadFile file answer head p → GivesBack h b file answer head p
+written-back : (h : FileHead) (b : Bodies) → Allowed h b → h .batch < 2 ^ 64 → (file : Range) → file ≡ fileOf h b → ReadsAs h b file
 written-back h b a fits file made answer head p r =
     gives-back h b file answer head p
     (subst (λ (f : Range). Holds f headLength h b) (sym made) (laid-holds headLength refl h b fits a)) r

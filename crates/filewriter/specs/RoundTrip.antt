@@ -23,26 +23,28 @@ handedOut file p = bodiesWith (bodyBetween file p 1) (bodyBetween file p 3) (bod
 abbrev pub LongHead : (file : Range) (p : Places) → Type 0
 LongHead file p = length (bodyBetween file p 2) ≡ headLength
 
--- what the reader finds of a file: it takes it, the head is long, and these are the values and the bodies
+-- the reader takes a file, whose head is long, and finds these values and bodies in it
 pub record GivesBack (h : FileHead) (b : Bodies) (file : Range) (answer : Answer) (head : FileHead) (p : Places) : Type 0 where
   pub taken : answer ≡ Done
   pub long : LongHead file p
   pub same-head : head ≡ h
   pub same-bodies : handedOut file p ≡ b
 
+-- by its promise it can find nothing else
+abbrev pub ReadsAs : (h : FileHead) (b : Bodies) (file : Range) → Type 0
+ReadsAs h b file = (answer : Answer) (head : FileHead) (p : Places) → ReadFile file answer head p → GivesBack h b file answer head p
+
 -- 1. Whatever the writer is given, if it is done the reader takes the file and gives the same back
 abbrev pub WrittenReads : Type 0
 WrittenReads =
-    (h : FileHead) (b : Bodies) (file file′ : Range) → h .batch < 2 ^ 64 → WriteFile h b file Done file′
-    → (answer : Answer) (head : FileHead) (p : Places) → ReadFile file′ answer head p → GivesBack h b file′ answer head p
+    (h : FileHead) (b : Bodies) (file file′ : Range) → h .batch < 2 ^ 64 → WriteFile h b file Done file′ → ReadsAs h b file′
 
 -- 2. For any batch that the reader takes, writing and reading back gives the same head values and other bodies
 abbrev pub ReadBack : Type 0
 ReadBack =
     (file : Range) (h : FileHead) (p : Places) → Bytes file → ReadFile file Done h p
     → (out out′ : Range) (answer : Answer) → length out ≡ lengthOf h (handedOut file p) → WriteFile h (handedOut file p) out answer out′
-    → (answer ≡ Done)
-    × ((answer′ : Answer) (h′ : FileHead) (p′ : Places) → ReadFile out′ answer′ h′ p′ → GivesBack h (handedOut file p) out′ answer′ h′ p′)
+    → (answer ≡ Done) × ReadsAs h (handedOut file p) out′
 
 -- 3. Two files with long heads that the reader takes are the same bytes exactly when their head values and all bodies agree
 abbrev pub SameBytes : Type 0

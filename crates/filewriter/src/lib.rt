@@ -118,7 +118,7 @@ fn lay_head(file: &mut [u8], at: usize, width: u32, blocks: u32, batch: u64) -> 
     words::lay(file, next, &words::bytes64(batch))
 }
 
-// Lays out the whole file. A setup that is absent has no bytes.
+// Lays out the whole file. A setup that is absent has no bytes, so its body needs no branch.
 fn lay_file(
     width: u32,
     blocks: u32,

@@ -146,7 +146,7 @@ bodies-right width blocks there setup correction key check s k m e =
       ),
     )
 
--- so do all conditions
+-- where this is told, all conditions hold
 pub file-holds : (width batch blocks : ℕ) (there : Bool) (setup correction key check : ℕ) → FileTells width batch blocks there setup correction key check
     → AllHold (fileOrder width batch blocks there setup correction key check)
 file-holds width batch blocks there setup correction key check t = (
@@ -160,7 +160,7 @@ file-holds width batch blocks there setup correction key check t = (
   ),
 )
 
--- a setup that is there where it isn't empty has no bytes, or its length
+-- where only an empty setup is absent, a setup has no bytes, or its length
 pub setup-either : (setup : ℕ) → setupRight (not (eqb setup 0)) setup ≡ true → (setup ≡ 0) ⊎ (setup ≡ setupMessageLength)
 setup-either setup = here (eqb setup 0) (eqb setup setupMessageLength) (eqb-true setup 0) (eqb-true setup setupMessageLength)
   where

@@ -140,7 +140,7 @@ beforeCheck r table delta message pads =
 abbrev pub verifyOrder : (r : Record) (table delta message pads : ℕ) (accepted : Bool) → Order
 verifyOrder r table delta message pads accepted = beforeCheck r table delta message pads ++ ((accepted, Check) ∷ [])
 
--- ---- a batch on file. Paper 02, notes 1 and 3
+-- ---- a batch on file. Paper 02, notes 1, 3 and 4
 
 -- head values keep paper 01's bounds: 1, 3 for batch 0, and 4
 abbrev pub headOrder : (width batch blocks : ℕ) → Order

@@ -1,10 +1,11 @@
 -- Digests: their length and bytes. Assumes nothing.
 use mathlib.Core.Path.{_≡_, refl}
-use mathlib.Core.List.{List, [], _∷_, _++_}
+use mathlib.Core.List.{List, _++_}
 use Prim.Native.Nat.{ℕ, zero, suc, _/_, _^_}
 use native.Mathlib.Nat.{zero-lt-suc, mod-lt}
 use lib.ListN.{length}
 use Rattle.words.specs.Bytes.{Bytes}
+use Rattle.words.proofs.Concat.{append-bytes}
 use Rattle.sha256.specs.declared.Work.{Work}
 use Rattle.sha256.specs.Sha.{wordBytes, padded, initial, hashed, workBytes, digestOf}
 
@@ -14,11 +15,6 @@ wordBytes-bytes x (suc zero) = mod-lt (x / 2 ^ 16) (zero-lt-suc 255)
 wordBytes-bytes x (suc (suc zero)) = mod-lt (x / 2 ^ 8) (zero-lt-suc 255)
 wordBytes-bytes x (suc (suc (suc zero))) = mod-lt x (zero-lt-suc 255)
 wordBytes-bytes x (suc (suc (suc (suc i)))) = zero-lt-suc 255
-
-append-bytes : (a b : List ℕ) → Bytes a → Bytes b → Bytes (a ++ b)
-append-bytes [] b ha hb i = hb i
-append-bytes (x ∷ a) b ha hb zero = ha 0
-append-bytes (x ∷ a) b ha hb (suc i) = append-bytes a b (λ j. ha (suc j)) hb i
 
 workBytes-bytes : (s : Work) → Bytes (workBytes s)
 workBytes-bytes s =
