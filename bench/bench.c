@@ -221,8 +221,8 @@ static int same_file(struct softspoken_file a, struct softspoken_file b) {
            a.head == b.head && a.correction == b.correction && a.key == b.key && a.check == b.check && a.end == b.end;
 }
 
-/* Files of every width and number of blocks, with either head, some with batch 0; then with the length of a body, a byte of contents or
-   head, or the end changed. */
+/* Files of every width and number of blocks, with either head, some with batch 0 or a key below 4; then with the length of a body, a byte
+   of contents or head, or the end changed. */
 static void compare_files(void) {
     for (uint32_t n = 0; n < 12000; n++) {
         uint32_t width = 1u << n % 4, blocks = 1 + n / 4 % 15, first = 1 + n / 60 % 2;
@@ -231,6 +231,8 @@ static void compare_files(void) {
         int change = n / 120 % 4;
         if (change == 1) lengths.of[1 + random64() % 5] += random64() % 2 ? 1 : -1;
         size_t len = lay_file(file, first, lengths, width, blocks, random64() % 20 ? random64() >> random64() % 64 : 0);
+        uint32_t key_len = lengths.of[SOFTSPOKEN_FILE_KEY];
+        if (random64() % 8 == 0) put_le(file + len - lengths.of[SOFTSPOKEN_FILE_CHECK] - key_len, key_len, random64() % 4);
         size_t head = SOFTSPOKEN_FILE_CONTENTS_BYTES(6 - first) + (first == 1 ? lengths.of[1] : 0), at = random64() % 128;
         if (change == 2) file[at < 64 ? at : head + at % 10] = (uint8_t)random64() % (at % 2 ? 20 : 255);
         if (change == 3) len = random64() % (len + 2);
@@ -239,8 +241,8 @@ static void compare_files(void) {
 }
 
 /* Calls that are right, at every width and number of blocks, with a setup and without; and as many with one fault or more: a bit of the
-   width, the blocks, a body's length or the file's length flipped, or batch 0. The range starts alike for each writer. What lies behind
-   the file stays, and after a refusal all of it. */
+   width, the blocks, a body's length or the file's length flipped, batch 0, or a key that isn't usable. The range starts alike for each
+   writer. What lies behind the file stays, and after a refusal all of it. */
 static void compare_writes(void) {
     static write_file *const writers[] = {plain_file_write, memcpy_file_write, softspoken_file_write};
     static uint8_t before[ROOM], first[ROOM];
@@ -249,12 +251,13 @@ static void compare_writes(void) {
         uint32_t width = 1u << n % 4, blocks = 1 + n / 4 % 15, setup = n / 60 % 2 * SOFTSPOKEN_SETUP_MESSAGE_BYTES, answer = 0;
         struct shape s = SHAPE(width, blocks, setup);
         uint64_t batch = 1 + (random64() >> random64() % 64);
-        unsigned faults = n / 120 % 2 ? 1 + random64() % 31 : 0;
+        unsigned faults = n / 120 % 2 ? 1 + random64() % 63 : 0;
         if (faults & 1) s.width ^= 1u << random64() % 32;
         if (faults & 2) batch = 0;
         if (faults & 4) s.blocks ^= 1u << random64() % 32;
         if (faults & 8) s.len[random64() % BODIES] ^= 1u << random64() % 14;
         if (faults & 16) s.file_len ^= 1u << random64() % 15;
+        put_le(travelled[KEY], SOFTSPOKEN_FILE_KEY_BYTES, faults & 32 ? random64() % 2 : 2 + random64() % 4);
         for (unsigned w = 0; w < sizeof writers / sizeof *writers; w++) {
             memcpy(written, before, ROOM);
             uint32_t told = write_with(writers[w], &s, batch);

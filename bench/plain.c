@@ -322,6 +322,7 @@ struct softspoken_file plain_file_read(const uint8_t *file, size_t len) {
         begin[KEY] - begin[CORRECTION] != (128 / width - 1) * 8 * (blocks + 1) || begin[CHECK] - begin[KEY] != 8 ||
         len - begin[CHECK] != 1032)
         return refused(SOFTSPOKEN_ERR_BODY, len);
+    if (load_le64(file + begin[KEY]) < 2) return refused(SOFTSPOKEN_ERR_KEY, len);
     return (struct softspoken_file){SOFTSPOKEN_DONE, width, blocks, batch, begin[SETUP], begin[HEAD], begin[CORRECTION], begin[KEY],
                                     begin[CHECK], len};
 }
@@ -364,6 +365,7 @@ static inline uint32_t write_by(copy_bytes *copy, uint32_t width, uint32_t block
     if ((setup.len != 0 && setup.len != 8192) || correction.len != (128 / width - 1) * 8 * (blocks + 1) || key.len != 8 ||
         check.len != 1032)
         return SOFTSPOKEN_ERR_BODY;
+    if (load_le64(key.bytes) < 2) return SOFTSPOKEN_ERR_KEY;
     uint32_t count = setup.len ? 5 : 4;
     if (len != 4 + 12 * count + setup.len + 10 + correction.len + 8 + 1032) return SOFTSPOKEN_ERR_LENGTH;
     struct place to = {file, file + 4, file + 4 + 12 * count};

@@ -58,13 +58,16 @@ static void setup(struct softspoken_record *receiver, struct softspoken_record *
 }
 
 static void batch(struct softspoken_record *receiver, struct softspoken_record *sender) {
-    uint64_t key = 0;
+    uint64_t key;
     done(softspoken_receiver_start(receiver, RANGE(secret.roots), BATCH, BLOCKS, RANGE(secret.choices),
                                    RANGE(secret.receiver_table), RANGE(sent.correction)));
     done(softspoken_sender_correct(sender, RANGE(secret.siblings), RANGE(secret.delta), BATCH, BLOCKS,
                                    RANGE(sent.correction), RANGE(secret.sender_table)));
-    draw(RANGE(sent.key)); /* as it travels, little-endian */
-    for (unsigned i = 0; i < sizeof sent.key; i++) key |= (uint64_t)sent.key[i] << 8 * i;
+    do { /* until it is usable */
+        draw(RANGE(sent.key)); /* as it travels, little-endian */
+        key = 0;
+        for (unsigned i = 0; i < sizeof sent.key; i++) key |= (uint64_t)sent.key[i] << 8 * i;
+    } while (key < 2);
     done(softspoken_receiver_answer(receiver, key, RANGE(secret.choices), RANGE(secret.receiver_table),
                                     RANGE(sent.check), RANGE(secret.receiver_pads)));
     done(softspoken_sender_verify(sender, key, RANGE(secret.sender_table), RANGE(secret.delta), RANGE(sent.check),

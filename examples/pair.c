@@ -63,7 +63,7 @@ static int done(const char *step, uint32_t answer) {
         wipe_batch();
         wipe_setup();
         return 0;
-    default: abort(); /* ERR_WIDTH, ERR_BLOCKS, ERR_LENGTH: a fault of this program */
+    default: abort(); /* ERR_WIDTH, ERR_BLOCKS, ERR_KEY, ERR_LENGTH: a fault of this program */
     }
 }
 
@@ -96,7 +96,8 @@ static int batch(uint64_t number, uint8_t damage) {
         !done("correct", softspoken_sender_correct(&sender.record, RANGE(sender.siblings), RANGE(sender.delta), number,
                                                    BLOCKS, RANGE(sent.correction), RANGE(sender.table))))
         return 0;
-    draw(&key, sizeof key); /* the sender's, and only now that the correction has come */
+    do draw(&key, sizeof key); /* the sender's, and only now that the correction has come */
+    while (key < 2);           /* 0 and 1 are no usable keys */
     if (!done("answer", softspoken_receiver_answer(&receiver.record, key, RANGE(receiver.choices),
                                                    RANGE(receiver.table), RANGE(sent.check), RANGE(receiver.pads))))
         return 0;

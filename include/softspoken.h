@@ -8,7 +8,7 @@
        softspoken_open                                           softspoken_open
 
        softspoken_receiver_start     --- correction ------>      softspoken_sender_correct     for each batch
-                                     <-- key --------------      (random, drawn once the correction has come)
+                                     <-- key --------------      (random, 2 or above, once the correction has come)
        softspoken_receiver_answer    --- check message --->      softspoken_sender_verify
        pads: one per transfer                                    pads: two per transfer
 
@@ -34,8 +34,13 @@
 
    SECRETS. Each range is marked 'secret' (this side tells it to nobody) or 'sent' (to or from the other side). The
    fields of a record, widths, batch numbers, blocks, lengths, keys and answers are public. No branch and no address
-   depends on a byte of any range, but for one jump in softspoken_sender_verify, on its answer, and for the contents and
-   the head of a file, which softspoken_file_read looks at.
+   depends on a byte of any range, but for one jump in softspoken_sender_verify, on its answer; for the contents, the
+   head and the key of a file, which softspoken_file_read looks at; and for the key in softspoken_file_write.
+
+   THE KEY. A usable key is 2 or above: with key 0 a fold is the column's last word, and with key 1 the sum of its
+   words, whatever their order. The sender draws 8 random bytes once the correction has come, and draws again while
+   their number is below 2. Keys 0 and 1 are refused by SOFTSPOKEN_ERR_KEY, which closes nothing: the batch stays open,
+   and may be answered and verified with a usable key.
 
    THE LINE. The library carries nothing. Beside the three messages the host carries batch number, blocks and key. They
    must be the same on both sides, as must the width. We advise 8 bytes for the batch number, 4 for the blocks and 8 for
@@ -77,7 +82,7 @@ extern "C" {
 /* The major number rises when a program that was compiled with an older header no longer works, the minor one when
    there is something new. The string and the number, which is for #if, are made of these three. */
 #define SOFTSPOKEN_VERSION_MAJOR 2
-#define SOFTSPOKEN_VERSION_MINOR 1
+#define SOFTSPOKEN_VERSION_MINOR 2
 #define SOFTSPOKEN_VERSION_PATCH 0
 #define SOFTSPOKEN_VERSION_NUMBER \
     (SOFTSPOKEN_VERSION_MAJOR * 10000 + SOFTSPOKEN_VERSION_MINOR * 100 + SOFTSPOKEN_VERSION_PATCH)
@@ -141,7 +146,8 @@ enum softspoken_answer {
     SOFTSPOKEN_ERR_LENGTH = 5,   /* a range has another length than the one named */
     SOFTSPOKEN_ERR_CHECK = 6,    /* the check failed: the receiver cheated, or something was damaged or mixed up */
     SOFTSPOKEN_ERR_CONTENTS = 7, /* a file's count, kinds, offsets or end are not by the rules */
-    SOFTSPOKEN_ERR_BODY = 8      /* a body in a file has another length than its kind has */
+    SOFTSPOKEN_ERR_BODY = 8,     /* a body in a file has another length than its kind has */
+    SOFTSPOKEN_ERR_KEY = 9       /* the key is 0 or 1 */
 };
 
 /* The name of an answer, as it stands above, for a log; "unknown answer" for any other number. */
@@ -156,6 +162,7 @@ static inline const char *softspoken_answer_name(uint32_t answer) {
     case SOFTSPOKEN_ERR_CHECK: return "SOFTSPOKEN_ERR_CHECK";
     case SOFTSPOKEN_ERR_CONTENTS: return "SOFTSPOKEN_ERR_CONTENTS";
     case SOFTSPOKEN_ERR_BODY: return "SOFTSPOKEN_ERR_BODY";
+    case SOFTSPOKEN_ERR_KEY: return "SOFTSPOKEN_ERR_KEY";
     default: return "unknown answer";
     }
 }
@@ -277,10 +284,10 @@ uint32_t softspoken_sender_correct(struct softspoken_record *record, const uint8
 /* The receiver's answer to the sender's key, which ends the batch. The record must be open; blocks and batch number are
    the record's. A batch must be answered for one key only: the record sees to that, as long as it is not set back.
    Don't use the pads before the sender's verify is done: if it fails they are wiped (A FAILED CHECK).
-   Refusals, in this order: ERR_WIDTH; ERR_STAGE unless open; ERR_BATCH if last is 0; ERR_BLOCKS; ERR_LENGTH.
+   Refusals, in this order: ERR_WIDTH; ERR_STAGE unless open; ERR_BATCH if last is 0; ERR_BLOCKS; ERR_KEY; ERR_LENGTH.
 
    record     when done: blocks 0, stage ready; width and last stay.
-   key        from the sender: any number.
+   key        from the sender: 2 or above.
    choices    in, secret: SOFTSPOKEN_CHOICES_BYTES(blocks), and
    table      in, secret: SOFTSPOKEN_TABLE_BYTES(blocks): those of the receiver's start.
    message    out, sent: SOFTSPOKEN_CHECK_MESSAGE_BYTES. When done: under the key, the fold of the choices, then that of
@@ -297,11 +304,12 @@ uint32_t softspoken_receiver_answer(struct softspoken_record *record, uint64_t k
    receiver passes; and whatever was sent after an honest setup, a tree whose folded error isn't 0 (docs/THEOREMS.md,
    demand 3) passes for at most one value of its bits of delta. All columns are looked at before the answer, which tells
    none from another.
-   Refusals, in this order: ERR_WIDTH; ERR_STAGE unless open; ERR_BATCH if last is 0; ERR_BLOCKS; ERR_LENGTH; ERR_CHECK.
+   Refusals, in this order: ERR_WIDTH; ERR_STAGE unless open; ERR_BATCH if last is 0; ERR_BLOCKS; ERR_KEY; ERR_LENGTH;
+   ERR_CHECK.
 
    record     when done: blocks 0, stage ready; width and last stay. After ERR_CHECK: stage closed, all else stays; what
               both sides must do then, A FAILED CHECK says.
-   key        drawn at random once the correction has come, and then told to the receiver: any number.
+   key        drawn at random once the correction has come, 2 or above (THE KEY), and then told to the receiver.
    table      in, secret: SOFTSPOKEN_TABLE_BYTES(blocks), that of the sender's correction.
    delta      in, secret: SOFTSPOKEN_DELTA_BYTES, that of the setup.
    message    in, sent: SOFTSPOKEN_CHECK_MESSAGE_BYTES, from the receiver's answer.
@@ -320,7 +328,7 @@ enum softspoken_file_kind {
     SOFTSPOKEN_FILE_HEAD = 2,       /* width in 1 byte, blocks in 1, batch number in 8: SOFTSPOKEN_FILE_HEAD_BYTES; or
                                        with the number in 4, as in version 1: SOFTSPOKEN_FILE_SHORT_HEAD_BYTES */
     SOFTSPOKEN_FILE_CORRECTION = 3, /* SOFTSPOKEN_CORRECTION_BYTES(width, blocks), by the head */
-    SOFTSPOKEN_FILE_KEY = 4,        /* SOFTSPOKEN_FILE_KEY_BYTES */
+    SOFTSPOKEN_FILE_KEY = 4,        /* a usable key, little-endian: SOFTSPOKEN_FILE_KEY_BYTES */
     SOFTSPOKEN_FILE_CHECK = 5       /* the check message: SOFTSPOKEN_CHECK_MESSAGE_BYTES */
 };
 
@@ -343,7 +351,7 @@ struct softspoken_file {
    nothing and copies nothing.
    Refusals, in this order: ERR_CONTENTS if the count, a kind, an offset or the file's end breaks the rules above;
    ERR_BODY if the head has neither of its two lengths; ERR_WIDTH; ERR_BATCH if the batch number is 0; ERR_BLOCKS;
-   ERR_BODY if another body hasn't the length above.
+   ERR_BODY if another body hasn't the length above; ERR_KEY.
 
    file       in, sent: any bytes, of any length.
 
@@ -385,13 +393,13 @@ static inline struct softspoken_body softspoken_file_body(const struct softspoke
    and write what was found. The bodies that softspoken_file_body hands out are parts of that file, so the range that is
    written must be another.
    Refusals, in this order: ERR_WIDTH; ERR_BATCH if the batch number is 0; ERR_BLOCKS; ERR_BODY if the setup is neither
-   empty nor of the length above, or another body hasn't the length above; ERR_LENGTH if the file hasn't
+   empty nor of the length above, or another body hasn't the length above; ERR_KEY; ERR_LENGTH if the file hasn't
    SOFTSPOKEN_FILE_BYTES(width, blocks, setup_len).
 
    width, blocks, batch  the head's values.
    setup      in, sent: SOFTSPOKEN_SETUP_MESSAGE_BYTES, or of length 0, which means none.
    correction in, sent: SOFTSPOKEN_CORRECTION_BYTES(width, blocks).
-   key        in, sent: SOFTSPOKEN_FILE_KEY_BYTES, little-endian.
+   key        in, sent: SOFTSPOKEN_FILE_KEY_BYTES, little-endian; its number is 2 or above.
    check      in, sent: SOFTSPOKEN_CHECK_MESSAGE_BYTES.
    file       out, sent: SOFTSPOKEN_FILE_BYTES(width, blocks, setup_len). When done: the contents, of 5 entries or,
               without a setup, of 4; then the setup, the head, the correction, the key and the check. */

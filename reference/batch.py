@@ -1,4 +1,5 @@
-"""A batch's steps, for any inputs: paper 01, 'Trees and streams', 'Folding and pads' and 'Steps and their turning away'.
+"""A batch's steps, for any inputs: paper 01, 'Trees and streams', 'Folding and pads' and 'Steps and their turning away'; which keys are
+usable, paper 02, note 5.
 
 The names are those of setup.py. Of the paper's letters, u_0 is the choices, V the receiver's table and W the sender's. A column is
 a number here, row j its bit j.
@@ -15,7 +16,7 @@ import sha256
 import sizes
 from setup import DONE, LENGTH, NODE, WIDTH, WIDTHS
 
-STAGE, BATCH, BLOCKS, CHECK = 2, 3, 4, 6
+STAGE, BATCH, BLOCKS, CHECK, WEAK_KEY = 2, 3, 4, 6, 9
 READY, OPEN, CLOSED = 0, 1, 2
 
 Record = collections.namedtuple("Record", "width last blocks stage")
@@ -172,6 +173,11 @@ def accepts(width, key, table, delta, message):
 
 # The steps. Each gives the answer's number, the record, and what the ranges out then hold.
 
+def usable(key):
+    """With 0 the fold sees only the last block, and with 1 it can't tell one block from another."""
+    return key >= 2
+
+
 def opening(record, batch, blocks, lengths):
     """The answer of a step that opens a batch; lengths tells whether every range has the length named."""
     if record.width not in WIDTHS:
@@ -185,8 +191,8 @@ def opening(record, batch, blocks, lengths):
     return DONE if lengths() else LENGTH
 
 
-def ending(record, lengths):
-    """The answer of a step that ends a batch."""
+def ending(record, key, lengths):
+    """The answer of a step that ends a batch, but for the check."""
     if record.width not in WIDTHS:
         return WIDTH
     if record.stage != OPEN:
@@ -195,6 +201,8 @@ def ending(record, lengths):
         return BATCH
     if not 1 <= record.blocks <= 15:
         return BLOCKS
+    if not usable(key):
+        return WEAK_KEY
     return DONE if lengths() else LENGTH
 
 
@@ -253,7 +261,7 @@ def sender_correct(record, batch, blocks, siblings, delta, correction, table):
 
 def receiver_answer(record, key, choices, table, message, pads):
     given = lengths_of((choices, table, message, pads))
-    answer = ending(record, lambda: given == answer_lengths(record.width, record.blocks))
+    answer = ending(record, key, lambda: given == answer_lengths(record.width, record.blocks))
     if answer != DONE:
         return answer, record, message, pads
     after = Record(record.width, record.last, 0, READY)
@@ -262,7 +270,7 @@ def receiver_answer(record, key, choices, table, message, pads):
 
 def sender_verify(record, key, table, delta, message, pads):
     given = lengths_of((table, delta, message, pads))
-    answer = ending(record, lambda: given == verify_lengths(record.width, record.blocks))
+    answer = ending(record, key, lambda: given == verify_lengths(record.width, record.blocks))
     if answer != DONE:
         return answer, record, pads
     if not accepts(record.width, key, table, delta, message):
@@ -340,6 +348,25 @@ def check_damaged(rng, width, batch, blocks, delta):
     assert verdicts == {DONE, CHECK}
 
 
+def check_weak_keys(rng, width, batch, blocks):
+    """With a key that isn't usable both sides leave everything, on a right message and on a wrong one; then the batch is ended with one
+    that is, and the pads are those of any other usable key."""
+    roots, delta = rng.randbytes(sizes.roots_length(width)), rng.randbytes(sizes.delta_length(width))
+    choices, v, correction = receiver_batch(width, roots, batch, sizes.column_length(width, blocks))
+    w = sender_table(width, setup.beside_paths(width, delta, roots), delta, batch, sizes.column_length(width, blocks), correction)
+    given, ended = Record(width, batch, blocks, OPEN), Record(width, batch, 0, READY)
+    message, pads = [rng.randbytes(length) for length in answer_lengths(width, blocks)[2:]]
+    both = rng.randbytes(sizes.sender_pads_length(width, blocks))
+    for weak, key in ((0, 2), (1, 3), (1, (1 << 64) - 1)):
+        assert receiver_answer(given, weak, choices, v, message, pads) == (WEAK_KEY, given, message, pads)
+        for received in (message, check_message(weak, choices, v), check_message(key, choices, v)):
+            assert sender_verify(given, weak, w, delta, received, both) == (WEAK_KEY, given, both)
+        mine, theirs = receiver_pads(width, batch, blocks, v), sender_pads(width, batch, blocks, w, delta)
+        sent = check_message(key, choices, v)
+        assert receiver_answer(given, key, choices, v, message, pads) == (DONE, ended, sent, mine)
+        assert sender_verify(given, key, w, delta, sent, both) == (DONE, ended, theirs)
+
+
 def check_columns(width, bits, u, receiver, senders):
     """One row of one tree, from the bits of its leaves; senders has pairs of a secret and the sender's bits, as numbers."""
     def number(columns):
@@ -352,7 +379,9 @@ def check_columns(width, bits, u, receiver, senders):
 
 
 def check():
-    """Paper 01's M8 to M10; the sender's leaves are the receiver's but for the path's end; honest and damaged batches at every width."""
+    """Paper 01's M8 to M10; the sender's leaves are the receiver's but for the path's end; honest and damaged batches at every width, and
+    keys that aren't usable."""
+    assert [key for key in range(4) if not usable(key)] == [0, 1]
     check_columns(2, [1, 0, 1, 1], 1, 1, [(2, 3)])
     check_columns(2, [1, 1, 1, 1], 0, 0, [(3, 0)])
     check_columns(1, [0, 1], 1, 1, [(0, 1), (1, 0)])
@@ -368,3 +397,4 @@ def check():
         check_honest(rng, width, rng.randrange(1, 1 << 64), rng.randrange(2, 5))
         for given in (delta, bytes(len(delta)), b"\xff" * len(delta)):
             check_damaged(rng, width, rng.randrange(1, 1 << 64), 1, given)
+        check_weak_keys(rng, width, rng.randrange(1, 1 << 64), 1)

@@ -1,4 +1,4 @@
-"""A batch on file, for any bytes: paper 02, notes 1, 3 and 4.
+"""A batch on file, for any bytes: paper 02, notes 1, 3, 4 and 5.
 
 A file has its contents, then its bodies: of the kinds in order, of which the setup may be absent. The names are those of setup.py.
 """
@@ -9,7 +9,7 @@ import random
 
 import sha256
 import sizes
-from batch import BATCH, BLOCKS, parts
+from batch import BATCH, BLOCKS, WEAK_KEY, parts, usable
 from setup import DONE, LENGTH, WIDTH, WIDTHS
 
 CONTENTS, BODY = 7, 8
@@ -91,11 +91,17 @@ def answer_by(head, others):
     if not 1 <= head.blocks <= 15:
         return BLOCKS
     right = body_lengths(head.width, head.blocks)
-    return DONE if all(len(body) == right[kind] for kind, body in others.items()) else BODY
+    if any(len(body) != right[kind] for kind, body in others.items()):
+        return BODY
+    return DONE if usable(key_in(others[KEY])) else WEAK_KEY
 
 
 def head_in(body):
     return Head(body[0], body[1], int.from_bytes(body[2:], "little"))
+
+
+def key_in(body):
+    return int.from_bytes(body, "little")
 
 
 def body_lengths(width, blocks):
@@ -171,7 +177,8 @@ def write_again(data):
 
 def check():
     """What was laid is read, at every width, with either head, and with and without a setup, and each body lies between its place and the
-    next. Written, it is the file that has the long head, and nothing is written to a range of another length."""
+    next. Written, it is the file that has the long head, and nothing is written to a range of another length. With a key that isn't usable
+    it is neither read nor written."""
     rng = random.Random(1)
     for width in WIDTHS:
         for blocks in (1, 2, 15):
@@ -189,3 +196,9 @@ def check():
                     assert written == write(head_body(width, blocks, batch), setup, *others)
                     for lent in (bytes(len(written) - 1), bytes(len(written) + 1)):
                         assert write_batch(found, setup or b"", *others, lent) == (LENGTH, lent)
+                    for key in (0, 1):
+                        others[1] = key.to_bytes(8, "little")
+                        weak = write(head, setup, *others)
+                        assert read(weak) == refused(WEAK_KEY, weak)
+                        for lent in (bytes(len(written)), bytes(len(written) - 1)):
+                            assert write_batch(found, setup or b"", *others, lent) == (WEAK_KEY, lent)

@@ -1,5 +1,5 @@
-"""The files that the program files reads and writes, and what it must print of them; and those that tests/host reads. Each stands beside
-the answer that paper 02, notes 1, 3 and 4 name."""
+"""The files that the program files reads and writes, and what it must print of them; and those that tests/host reads and writes. Each
+stands beside the answer that paper 02, notes 1, 3, 4 and 5 name."""
 
 import functools
 import hashlib
@@ -9,8 +9,9 @@ import random
 import batch
 import file
 import sizes
+from batch import WEAK_KEY
 from file import BODY, CHECK, CONTENTS, CORRECTION, HEAD, KEY, KINDS, SETUP, Entry
-from records import LIMIT, Records, derived, long, numbers
+from records import LIMIT, USABLE_KEYS, WEAK_KEYS, Records, derived, long, numbers
 from setup import DONE, LENGTH, WIDTH, WIDTHS
 
 MOST = (1 << 32) - 1
@@ -108,12 +109,33 @@ class Host:
         self.records += 1
 
 
+class HostWrites:
+    """What tests/host writes, under the key that is set. Of each call the head's values, the lengths of the other bodies and of the range
+    for the file, and the bodies; then the answer's number, and where it is done the file."""
+
+    def __init__(self):
+        self.out = b""
+        self.records = 0
+        self.key = b""
+
+    def write(self, answer, seed, head, lengths, length):
+        """Setup, correction, key and check have these lengths. All but the key follow one another in what the seed gives."""
+        bodies = [under(seed)[end - n:end] for n, end in zip(lengths, itertools.accumulate(lengths))]
+        bodies[2] = self.key[:lengths[2]]
+        assert [len(body) for body in bodies] == lengths
+        given, after = file.write_batch(head, *bodies, bytes(length))
+        assert given == answer
+        self.out += numbers(head.width, head.blocks) + long(head.batch) + numbers(*lengths, length) + b"".join(bodies)
+        self.out += numbers(given) + (after if given == DONE else b"")
+        self.records += 1
+
+
 class Site:
     """A batch of one width and number of blocks on file, and the files that are nearly that."""
 
-    def __init__(self, v, width, blocks, kinds, number, head_body=file.short_head_body):
+    def __init__(self, v, width, blocks, kinds, number, head_body=file.short_head_body, key=None):
         self.v, self.seed = v, v.records
-        self.width, self.blocks, self.number = width, blocks, number
+        self.width, self.blocks, self.number, self.key = width, blocks, number, key
         self.kinds, self.head_body = list(kinds), head_body
         self.head = self.head_with()
         self.lengths = {kind: file.body_lengths(width, blocks)[kind] for kind in kinds}
@@ -130,14 +152,15 @@ class Site:
         kinds = self.kinds if kinds is None else kinds
         return file.entries_of(kinds, [{**self.lengths, **lengths}.get(kind, 0) for kind in kinds])
 
-    def laid(self, entries=None, head=None, end=None, count=None, key=None):
-        """The bytes of a file: the head and a key where their entries say, then the contents, over what the seed gives."""
+    def laid(self, entries=None, head=None, end=None, count=None, key=None, over=()):
+        """The bytes of a file: the head and a key, if there is one, where their entries say, then pairs of a place and other bytes, and the
+        contents, over what the seed gives."""
         entries, head = self.entries if entries is None else entries, self.head if head is None else head
-        end = self.end if end is None else end
+        end, key = self.end if end is None else end, self.key if key is None else key
         data = bytearray(under(self.seed)[:end])
         parts = [(entry.offset, head) for entry in entries if entry.kind == HEAD]
         parts += [(entry.offset, key) for entry in entries if entry.kind == KEY and key is not None]
-        parts.append((0, file.contents(len(entries) if count is None else count, entries)))
+        parts += [*over, (0, file.contents(len(entries) if count is None else count, entries))]
         for at, part in parts:
             part = part[:max(end - at, 0)]
             data[at:at + len(part)] = part
@@ -153,6 +176,10 @@ class Site:
             lengths[HEAD] = len(head)
         entries = self.entries_with(lengths)
         self.case(answer, entries=entries, head=head, end=entries[-1].offset + entries[-1].length)
+
+    def place(self, kind):
+        """Where the body of a kind begins."""
+        return self.entries[self.kinds.index(kind)].offset
 
     def changed(self, e, **fields):
         """The right entries, but for one, of which some fields are others."""
@@ -171,7 +198,7 @@ NAMES = {"setup": SETUP, "head": HEAD, "correction": CORRECTION, "key": KEY, "ch
 
 def taken(v, rng):
     """At every width and number of blocks, and of both layouts with the fewest and the most; there also the least and the highest batch
-    number of a short head, one whose lower bytes are 0, and the keys 0 and 1."""
+    number of a short head, one whose lower bytes are 0, and the keys 0 and 1, with which it is refused."""
     for width in WIDTHS:
         for blocks in range(1, 16):
             number = rng.randrange(1, 1 << 32)
@@ -182,8 +209,8 @@ def taken(v, rng):
                     continue
                 for number in (1, 1 << 24, MOST):
                     site.case(DONE, head=site.head_with(batch=number))
-                for key in (0, 1):
-                    site.case(DONE, key=long(key))
+                for key in WEAK_KEYS:
+                    site.case(WEAK_KEY, key=long(key))
 
 
 def long_heads(v, rng):
@@ -375,27 +402,77 @@ def body_lengths(site):
     site.consistent(BODY, correction=right - 1, check=1033)
 
 
+# 9 for the key, in the file's order of bytes.
+
+def least_keys(v, rng):
+    """The first keys that are usable: at every width, of both layouts with the fewest and the most blocks. With a long head those that
+    aren't, too."""
+    for width, blocks, layout in itertools.product(WIDTHS, (1, 15), (KINDS, KINDS[1:])):
+        site = Site(v, width, blocks, layout, rng.randrange(1, 1 << 32))
+        for key in (2, 3):
+            site.case(DONE, key=long(key))
+    for width, (blocks, layout) in itertools.product(WIDTHS, ((1, KINDS), (15, KINDS[1:]))):
+        site = Site(v, width, blocks, layout, rng.randrange(1 << 32, 1 << 64), file.head_body)
+        for key in range(4):
+            site.case(DONE if batch.usable(key) else WEAK_KEY, key=long(key))
+
+
+def usable_keys(site):
+    for key in USABLE_KEYS:
+        site.case(DONE, key=long(key))
+
+
+def key_places(site):
+    """What stands before the key or after it, or a byte further back or on, is 0 or 1, and the key isn't; or the key is, and what stands
+    there isn't."""
+    at, usable = site.place(KEY), long(27)
+    for weak in map(long, WEAK_KEYS):
+        for place in (at - 8, at + 8, *(site.place(kind) for kind in site.kinds if kind < KEY and kind != HEAD)):
+            site.case(DONE, key=usable, over=[(place, weak)])
+        site.case(DONE, key=long(1 << 56), over=[(at - 1, weak)])
+        site.case(DONE, key=long(2), over=[(at + 1, weak)])
+        site.case(WEAK_KEY, key=weak, over=[(at - 8, usable), (at + 8, usable)])
+
+
+def key_last(site):
+    """The key isn't usable, and all that is looked at before it isn't right either; then it alone isn't."""
+    for group in (contents_first, heads, body_lengths):
+        group(site)
+    for length in (0, 5, 7, 9, 11):
+        site.consistent(BODY, (site.head + bytes(10))[:length])
+    site.case(WEAK_KEY)
+
+
 # What reading finds, written.
 
-def written_again(v):
-    """Every file above that is read, into a range of the exact length."""
-    for given in v.files:
-        if file.read(given[0]).answer == DONE:
+def length_again(data):
+    """As long as the file is with a long head."""
+    head = next(entry.length for entry in file.entries_in(data) if entry.kind == HEAD)
+    return len(data) + sizes.head_length() - head
+
+
+def written_again(v, files):
+    """Each of these files that is read, into a range of the exact length. Where the key isn't usable no batch is found."""
+    for given in files:
+        answer = file.read(given[0]).answer
+        if answer == DONE:
             v.again(DONE, len(file.write_again(given[0])), *given)
+        elif answer == WEAK_KEY:
+            v.again(WIDTH, length_again(given[0]), *given)
 
 
-def again_refused(v):
+def again_refused(v, files):
     """Of both layouts, with either head, into a range that is a byte shorter or longer, or as long as with a short head. Then files that
-    are refused: no batch is found there."""
+    are refused for anything but their key: no batch is found there."""
     shorter = sizes.head_length() - sizes.short_head_length()
-    found = [(file.read(given[0]), given) for given in v.files]
+    found = [(file.read(given[0]), given) for given in files]
     layouts = {tuple(len(body) for body in read.bodies[:2]): given for read, given in found if read.answer == DONE}
     assert len(layouts) == 4
     for given in layouts.values():
         right = len(file.write_again(given[0]))
         for length in (right - 1, right + 1, right - shorter):
             v.again(LENGTH, length, *given)
-    refused = {read.answer: given for read, given in found if read.answer != DONE}
+    refused = {read.answer: given for read, given in found if read.answer not in (DONE, WEAK_KEY)}
     for given in refused.values():
         v.again(WIDTH, len(given[0]), *given)
 
@@ -529,19 +606,29 @@ def cases():
         site = Site(v, width, blocks, layout, rng.randrange(1 << 32, 1 << 64), file.head_body)
         for group in (ends, long_head_lengths, heads, body_lengths):
             group(site)
-    written_again(v)
-    again_refused(v)
+    written_again(v, v.files)
+    again_refused(v, v.files)
     written(v, rng)
     for width, blocks, setup in ((1, 15, 8192), (2, 1, 0), (4, 1, 8192), (8, 15, 0)):
         call = Call(v, width, blocks, setup, rng.randrange(1 << 32, 1 << 64))
         for group in (write_heads, write_bodies, write_files, write_order):
             group(call)
+    before = len(v.files)
+    for key, width, blocks, layout, head_body in ((0, 2, 15, KINDS, file.short_head_body), (1, 4, 1, KINDS[1:], file.head_body)):
+        key_last(Site(v, width, blocks, layout, rng.randrange(1, 1 << 32), head_body, long(key)))
+    for width, blocks, layout, head_body in ((8, 1, KINDS, file.short_head_body), (1, 1, KINDS[1:], file.head_body)):
+        site = Site(v, width, blocks, layout, rng.randrange(1, 1 << 32), head_body)
+        usable_keys(site)
+        key_places(site)
+    least_keys(v, rng)
+    written_again(v, v.files[before:])
+    again_refused(v, v.files[before:])
     assert len(v.asked) <= LIMIT
     return v
 
 
 def host_cases():
-    """Both layouts at every width, and each refusal; the shortest files but one. Then both layouts with a long head."""
+    """Both layouts at every width, and each refusal; the shortest files but one. Then both layouts with a long head, and the key."""
     rng = random.Random(8)
     v = Host()
     for width, kinds in itertools.product(WIDTHS, (KINDS, KINDS[1:])):
@@ -567,7 +654,7 @@ def host_cases():
         site.consistent(batch.BLOCKS, site.head_with(blocks=blocks), key=9)
     for given in ({"correction": site.lengths[CORRECTION] + 1}, {"key": 7}, {"check": 1033}, {"key": 9, "check": 1031}):
         site.consistent(BODY, **given)
-    site.case(DONE, key=long(0))
+    site.case(WEAK_KEY, key=long(0))
     Site(v, 8, 1, KINDS, rng.randrange(1 << 32, 1 << 64), file.head_body).case(DONE)
     site = Site(v, 8, 1, KINDS[1:], LAST, file.head_body)
     for number in (1, MOST + 1, LAST):
@@ -575,4 +662,28 @@ def host_cases():
     site.consistent(BODY, site.head_with(width=3)[:9])
     site.consistent(WIDTH, site.head_with(width=3, batch=0))
     site.consistent(batch.BATCH, site.head_with(batch=0, blocks=16))
+    for layout, head_body in itertools.product((KINDS, KINDS[1:]), (file.short_head_body, file.head_body)):
+        site = Site(v, 8, 1, layout, 1, head_body, long(1))
+        site.case(WEAK_KEY)
+    site.consistent(BODY, check=1031)
+    site.consistent(batch.BLOCKS, site.head_with(blocks=16))
+    for key in (0, 2, 1 << 56):
+        site.case(DONE if batch.usable(key) else WEAK_KEY, key=long(key))
+    return v.out
+
+
+def host_writes():
+    """With a key that isn't usable, the faults that are looked at before it; then it alone, and with a file's range that is shorter or
+    longer. With a setup, one such key and the first that is usable; without, all."""
+    rng = random.Random(9)
+    v = HostWrites()
+    with_setup, without = [Call(v, 8, 1, setup, rng.randrange(1 << 32, 1 << 64)) for setup in (8192, 0)]
+    v.key = long(1)
+    write_order(without)
+    for call, keys in ((with_setup, (0, 2)), (without, (*WEAK_KEYS, *USABLE_KEYS))):
+        for key in keys:
+            v.key, usable = long(key), batch.usable(key)
+            for by in (-1, 1) if call is without and key <= 2 else ():
+                call.case(LENGTH if usable else WEAK_KEY, file=call.right["file"] + by)
+            call.case(DONE if usable else WEAK_KEY)
     return v.out

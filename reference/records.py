@@ -5,6 +5,11 @@ import hashlib
 # No program reads more than this.
 LIMIT = 1000000
 
+# The keys that aren't usable, and some that are: the next two and the highest; and those of which some bytes alone, or all in the other
+# order, would be 0 or 1.
+WEAK_KEYS = 0, 1
+USABLE_KEYS = 2, 3, 256, 257, 1 << 32, (1 << 32) + 1, 1 << 56, 1 << 63, (1 << 64) - 1
+
 
 def derived(seed, number, length):
     """A range of a record, which is not sent: bytes 32j to 32j + 31 are SHA-256 of the record's seed, the range's number and j, 4 bytes

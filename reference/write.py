@@ -20,7 +20,7 @@ import published
 import setup
 import sha256
 import sizes
-from records import LIMIT, Records, derived, long, numbers
+from records import LIMIT, USABLE_KEYS, WEAK_KEYS, Records, derived, long, numbers
 
 ROOT = pathlib.Path(__file__).resolve().parent.parent
 
@@ -59,6 +59,11 @@ def stepped(answer, record, ranges=()):
     line = bytes([answer]) + numbers(record.width, record.last & MOST, record.blocks, record.stage)
     line += b"".join(hashlib.sha256(r).digest()[:8] for r in ranges)
     return (line + (numbers(upper) if upper else b"")).hex()
+
+
+def pads_told(line):
+    """What the line of a step that ends a batch has of the pads, its last range."""
+    return line[2 * (1 + 4 * 4 + 3 * 8):2 * (1 + 4 * 4 + 4 * 8)]
 
 
 class Vectors(Records):
@@ -112,14 +117,15 @@ class Batches(Records):
         super().__init__()
         self.receiver = self.sender = batch.Record(0, 0, 0, 0)
 
-    # Single steps, on a record of their own. Each has a seed of its own, its number, and sends the lengths of the ranges.
+    # Single steps, on a record of their own. Each sends the lengths of the ranges, and a seed: its number, where none is given.
 
-    def step(self, kind, record, given, lengths, step):
+    def step(self, kind, record, given, lengths, step, seed=None):
         """A record of one step on four ranges, of which those that it writes are the last. Given are a batch number and blocks, or a key."""
-        ranges = [derived(self.records, i, n) for i, n in enumerate(lengths)]
+        seed = self.records if seed is None else seed
+        ranges = [derived(seed, i, n) for i, n in enumerate(lengths)]
         answer, after, *out = step(*ranges)
         line = stepped(answer, after, ranges[:4 - len(out)] + out)
-        self.add(kind, record_bytes(record) + given + numbers(self.records, *lengths), line)
+        self.add(kind, record_bytes(record) + given + numbers(seed, *lengths), line)
         return answer, after
 
     def receiver_start(self, record, number, blocks, lengths):
@@ -130,13 +136,13 @@ class Batches(Records):
         return self.step(SENDER_CORRECT, record, long(number) + numbers(blocks), lengths,
                          lambda *ranges: batch.sender_correct(record, number, blocks, *ranges))
 
-    def receiver_answer(self, record, key, lengths):
+    def receiver_answer(self, record, key, lengths, seed=None):
         return self.step(RECEIVER_ANSWER, record, long(key), lengths,
-                         lambda *ranges: batch.receiver_answer(record, key, *ranges))
+                         lambda *ranges: batch.receiver_answer(record, key, *ranges), seed)
 
-    def sender_verify(self, record, key, lengths):
+    def sender_verify(self, record, key, lengths, seed=None):
         return self.step(SENDER_VERIFY, record, long(key), lengths,
-                         lambda *ranges: batch.sender_verify(record, key, *ranges))
+                         lambda *ranges: batch.sender_verify(record, key, *ranges), seed)
 
     # The two sessions.
 
@@ -243,8 +249,13 @@ def opened(width, last, blocks):
     return batch.Record(width, last, blocks, batch.OPEN)
 
 
+def closed(width, last, blocks):
+    return batch.Record(width, last, blocks, batch.CLOSED)
+
+
 ACCEPTED = [batch.DONE] * 4
 REFUSED = [batch.DONE] * 3 + [batch.CHECK]
+HELD = [batch.DONE, batch.WEAK_KEY] * 2
 
 
 def session(v, rng, width, blocks_each):
@@ -286,11 +297,11 @@ def closed_session(v, rng, width):
     last = sizes.correction_length(width, 1) - 1
     v.open(width)
     assert v.batch(seed, width, 1, 1, 27, delta, [(CORRECTION, last, 1)]) == REFUSED
-    assert v.sender == batch.Record(width, 1, 1, batch.CLOSED)
+    assert v.sender == closed(width, 1, 1)
     for number, blocks in ((2, 1), (2, 2), (1, 1), (0, 15)):
         answers = v.batch(seed, width, number, blocks, 27, delta)
         assert answers[2:] == [batch.STAGE, batch.STAGE]
-        assert v.sender == batch.Record(width, 1, 1, batch.CLOSED)
+        assert v.sender == closed(width, 1, 1)
     assert v.open(3) == batch.WIDTH and v.sender.stage == batch.CLOSED
     v.open(width)
     assert v.batch(seed, width, 1, 1, 27, delta) == ACCEPTED
@@ -315,8 +326,15 @@ def played(v, seed, width, number, key, delta, damage):
     v.open(width)
     answers = v.batch(seed, width, number, 1, key, delta, damage)
     assert answers in (ACCEPTED, REFUSED)
-    assert v.sender == (ready(width, number) if answers == ACCEPTED else batch.Record(width, number, 1, batch.CLOSED))
+    assert v.sender == (ready(width, number) if answers == ACCEPTED else closed(width, number, 1))
     return answers == ACCEPTED
+
+
+def held(v, seed, width, number, key, delta, damage=()):
+    """A batch of one block under a key that isn't usable, on two sessions opened for it: it stays open on both sides."""
+    v.open(width)
+    assert v.batch(seed, width, number, 1, key, delta, damage) == HELD
+    assert v.receiver == v.sender == opened(width, number, 1)
 
 
 def corrections_damaged(v, rng, width):
@@ -362,8 +380,8 @@ def messages_damaged(v, rng, width, folds):
 
 
 def verifies_damaged(v, rng, width):
-    """A verify on another delta, W or key than the batch's, each altered in one bit; the key 0, which hides all but the last word; and
-    delta 0 and all ones."""
+    """A verify on another delta, W or key than the batch's, each altered in one bit; the key 0, with which no batch is ended; and delta 0
+    and all ones."""
     seed, number, key = v.records, rng.randrange(1, 1 << 32), rng.randrange(1 << 64)
     delta, columns, length = rng.randbytes(sizes.delta_length(width)), sizes.columns(width), sizes.column_length(width, 1)
     for place in (0, rng.randrange(len(delta)), len(delta) - 1):
@@ -376,10 +394,10 @@ def verifies_damaged(v, rng, width):
     zeros, ones = bytes(len(delta)), b"\xff" * len(delta)
     for given in (zeros, ones):
         assert played(v, seed, width, number, key, given, [])
-        assert played(v, seed, width, number, 0, given, [(CORRECTION, 0, 255)])
+        held(v, seed, width, number, 0, given, [(CORRECTION, 0, 255)])
     assert played(v, seed, width, number, key, zeros, [(CORRECTION, 8, 1)])
     assert not played(v, seed, width, number, key, ones, [(CORRECTION, 8, 1)])
-    assert not played(v, seed, width, number, 0, ones, [(CORRECTION, 8, 1)])
+    held(v, seed, width, number, 0, ones, [(CORRECTION, 8, 1)])
 
 
 def steps_done(v, rng, width):
@@ -389,11 +407,21 @@ def steps_done(v, rng, width):
         number = rng.randrange(1 << 31, 1 << 32)
         assert v.receiver_start(record, number, blocks, batch.start_lengths(width, blocks))[0] == batch.DONE
         assert v.sender_correct(record, number, blocks, batch.correct_lengths(width, blocks))[0] == batch.DONE
-        for key in (rng.randrange(1 << 64), 0, MOST << 32 | MOST):
-            record = opened(width, number, blocks)
-            assert v.receiver_answer(record, key, batch.answer_lengths(width, blocks))[0] == batch.DONE
-            closed = batch.CHECK, record._replace(stage=batch.CLOSED)
-            assert v.sender_verify(record, key, batch.verify_lengths(width, blocks)) == closed
+        for key in (rng.randrange(1 << 64), 0, LAST):
+            ended(v, width, number, blocks, key)
+
+
+def ended(v, width, number, blocks, key, seed=None):
+    """Either step that ends a batch, alone, on ranges of the right lengths: the receiver's is done, and the sender's check fails; or the
+    key isn't usable, and both leave the record. What the line then has of the receiver's pads."""
+    record = opened(width, number, blocks)
+    answered, verified = (batch.DONE, ready(width, number)), (batch.CHECK, closed(width, number, blocks))
+    if not batch.usable(key):
+        answered = verified = batch.WEAK_KEY, record
+    assert v.receiver_answer(record, key, batch.answer_lengths(width, blocks), seed) == answered
+    pads = pads_told(v.lines[-1])
+    assert v.sender_verify(record, key, batch.verify_lengths(width, blocks), seed) == verified
+    return pads
 
 
 def long_steps(v, rng, width):
@@ -404,9 +432,9 @@ def long_steps(v, rng, width):
         assert v.sender_correct(record, number, 1, batch.correct_lengths(width, 1))[0] == batch.DONE
         record = opened(width, number, 1)
         assert v.receiver_answer(record, 27, batch.answer_lengths(width, 1))[0] == batch.DONE
-        closed = batch.CHECK, record._replace(stage=batch.CLOSED)
-        assert v.sender_verify(record, 27, batch.verify_lengths(width, 1)) == closed
-        assert v.sender_verify(closed[1], 27, batch.verify_lengths(width, 1)) == (batch.STAGE, closed[1])
+        failed = batch.CHECK, closed(width, number, 1)
+        assert v.sender_verify(record, 27, batch.verify_lengths(width, 1)) == failed
+        assert v.sender_verify(failed[1], 27, batch.verify_lengths(width, 1)) == (batch.STAGE, failed[1])
         v.set(record, record)
         assert v.open(3) == batch.WIDTH and v.sender == record
         assert v.open(width) == batch.DONE and v.sender == ready(width, 0)
@@ -449,12 +477,12 @@ def opening_refused(call, lengths_of):
         refused(batch.LENGTH, (width, 3, 0, 0), 4, blocks, lengths_of(3, blocks))
 
 
-def ending_refused(call, lengths_of):
-    """What either step that ends a batch refuses, by the record and the lengths alone."""
-    right = lengths_of(8, 1)
+def ending_refused(call, lengths_of, key=27):
+    """What either step that ends a batch refuses, by the record and the lengths alone. A key that isn't usable stands between them."""
+    right, length = lengths_of(8, 1), batch.LENGTH if batch.usable(key) else batch.WEAK_KEY
 
     def refused(number, record, lengths):
-        assert call(batch.Record(*record), 27, lengths) == (number, record)
+        assert call(batch.Record(*record), key, lengths) == (number, record)
 
     for width in (0, 3, 5, 16, MOST):
         refused(batch.WIDTH, (width, 1, 1, 1), right)
@@ -471,8 +499,87 @@ def ending_refused(call, lengths_of):
     refused(batch.BLOCKS, (8, 1, 0, 1), lengths_of(8, 0))
     for width, blocks in ((8, 1), (1, 15)):
         for lengths in wrong_lengths(lengths_of(width, blocks)):
-            refused(batch.LENGTH, (width, MOST, blocks, 1), lengths)
-        refused(batch.LENGTH, (width, MOST, blocks, 1), lengths_of(width, blocks - 1))
+            refused(length, (width, MOST, blocks, 1), lengths)
+        refused(length, (width, MOST, blocks, 1), lengths_of(width, blocks - 1))
+
+
+# Keys.
+
+def keys(v, rng, width):
+    """Whole batches under keys that aren't usable. They stay open on both sides, so under one that is they can't be started, but ended: the
+    receiver's answer is done, and the sender's check, on no W of the batch, fails. Then batches under keys that are usable: the pads are
+    the same under all."""
+    seed, number, delta = v.records, rng.randrange(1, 1 << 32), rng.randbytes(sizes.delta_length(width))
+    for key in WEAK_KEYS:
+        held(v, seed, width, number, key, delta)
+        assert v.batch(seed, width, number, 1, key + 2, delta) == [batch.STAGE, batch.DONE, batch.STAGE, batch.CHECK]
+        assert (v.receiver, v.sender) == (ready(width, number), closed(width, number, 1))
+    pads = set()
+    for key in USABLE_KEYS:
+        assert played(v, seed, width, number, key, delta, [])
+        pads.add((pads_told(v.lines[-3]), pads_told(v.lines[-1])))
+    assert len(pads) == 1
+
+
+def hidden(v, rng, width):
+    """An error in the first and the last word of one tree's correction, whose fold is 0: it is accepted whatever delta is, and each of the
+    two alone is refused where delta is all ones."""
+    seed, number = v.records, rng.randrange(1, 1 << 32)
+    zeros, ones = bytes(sizes.delta_length(width)), b"\xff" * sizes.delta_length(width)
+    for key in (2, rng.randrange(2, 1 << 64)):
+        first = [(CORRECTION, 0, 255)]
+        last = [(CORRECTION, 8 + x, byte) for x, byte in enumerate(long(gf64.product(255, key))) if byte]
+        for delta in (zeros, ones):
+            assert played(v, seed, width, number, key, delta, first + last)
+        for damage in (first, last):
+            assert not played(v, seed, width, number, key, ones, damage)
+
+
+def keys_in_turn(v, rng, width):
+    """The steps that end a batch, alone, on the same ranges: with each key that isn't usable, then with the first that is, and with any
+    other. The pads that the receiver then gets are those that it would have got at once."""
+    for blocks in (1, 2, 15):
+        seed, number = v.records, rng.randrange(1, 1 << 32)
+        given = [ended(v, width, number, blocks, key, seed) for key in (*WEAK_KEYS, 2, rng.randrange(2, 1 << 64))]
+        assert given[0] == given[1] != given[2] == given[3]
+
+
+def one_key_weak(v, rng, width):
+    """The key isn't usable at the sender's verify alone, on a right message and on a wrong one: the batch stays open there. Then at the
+    receiver's answer alone: no message came, so the sender's check fails."""
+    seed, number, delta = v.records, rng.randrange(1, 1 << 32), rng.randbytes(sizes.delta_length(width))
+    for weak in WEAK_KEYS:
+        for key in (2, 1 << 56):
+            alter = [(KEY, place, mask) for place, mask in enumerate(long(key ^ weak)) if mask]
+            for damage in ([], [(MESSAGE, rng.randrange(8, sizes.check_message_length(width)), 1)]):
+                v.open(width)
+                assert v.batch(seed, width, number, 1, key, delta, alter + damage) == [batch.DONE] * 3 + [batch.WEAK_KEY]
+                assert (v.receiver, v.sender) == (ready(width, number), opened(width, number, 1))
+            v.open(width)
+            assert v.batch(seed, width, number, 1, weak, delta, alter) == [batch.DONE, batch.WEAK_KEY, batch.DONE, batch.CHECK]
+            assert (v.receiver, v.sender) == (opened(width, number, 1), closed(width, number, 1))
+
+
+def held_then_ended(v, rng, width):
+    """A verify with key 0 on a wrong message, then with key 1, and then with the batch's, all on the sender's one record; the receiver
+    plays the batch anew for each. The last is accepted, and gives the pads that it would have given at once. No W is handed on from one to
+    the next, so there it is altered to what it was."""
+    seed, number, key = v.records, rng.randrange(1, 1 << 32), rng.randrange(2, 1 << 64)
+    delta, length = rng.randbytes(sizes.delta_length(width)), sizes.column_length(width, 1)
+    roots = derived(seed, 0, sizes.roots_length(width))
+    _, _, correction = batch.receiver_batch(width, roots, number, length)
+    w = batch.sender_table(width, honest_siblings(width, delta, roots), delta, number, length, correction)
+    again = [(TABLE, place, x ^ y) for place, (x, y) in enumerate(zip(w, derived(seed, 4, len(w)))) if x != y]
+    assert played(v, seed, width, number, key, delta, [])
+    pads = pads_told(v.lines[-1])
+    v.open(width)
+    for other, damage, third in ((0, [(MESSAGE, 8, 1)], batch.DONE), (1, [], batch.STAGE), (key, again, batch.STAGE)):
+        v.set(ready(width, number - 1), v.sender)
+        damage = damage + [(KEY, place, mask) for place, mask in enumerate(long(key ^ other)) if mask]
+        fourth = batch.DONE if other == key else batch.WEAK_KEY
+        assert v.batch(seed, width, number, 1, key, delta, damage) == [batch.DONE, batch.DONE, third, fourth]
+        assert v.sender == (ready(width, number) if other == key else opened(width, number, 1))
+    assert pads_told(v.lines[-1]) == pads
 
 
 def batches():
@@ -498,8 +605,28 @@ def batches():
         long_steps(v, rng, width)
     long_numbers_refused(v.receiver_start, batch.start_lengths(8, 1))
     long_numbers_refused(v.sender_correct, batch.correct_lengths(8, 1))
+    for width in setup.WIDTHS:
+        for group in (keys, hidden, keys_in_turn):
+            group(v, rng, width)
+    one_key_weak(v, rng, 4)
+    held_then_ended(v, rng, 8)
+    for key in WEAK_KEYS:
+        ending_refused(v.receiver_answer, batch.answer_lengths, key)
+        ending_refused(v.sender_verify, batch.verify_lengths, key)
     assert len(v.asked) <= LIMIT
     return v
+
+
+def weak_folds(v, rng):
+    """The fold is there for keys that aren't usable, too: under 0 it is the last word, under 1 the ⊕ of all."""
+    for count in (1, 2, 16):
+        columns = [rng.randbytes(8 * count) for _ in range(4)]
+        words = [gf64.words(column) for column in columns]
+        for key, folds in ((0, [each[-1] for each in words]), (1, [batch.xor(each) for each in words])):
+            v.four_folds(key, columns)
+            assert v.lines[-1] == long(*folds).hex()
+            v.line(long(key) + columns[0])
+            assert v.lines[-1] == "%016x" % folds[0]
 
 
 def vectors():
@@ -536,32 +663,42 @@ def vectors():
     setups_refused(v)
     for use, number in ((1, MOST + 1), (1, MOST + 2), (1, 1 << 63), (1, LAST), (MOST, 0x0807060504030201)):
         v.nonce(use, number)
+    weak_folds(v, rng)
     assert len(v.asked) <= LIMIT
     return v
 
 
 def session_cases(width):
     """What tests/host lends to the steps of a session of four batches, and what they must give: the roots, the siblings of an honest
-    setup and delta; of each batch its number, key and blocks, and of each step the answer, the record and what it writes."""
+    setup and delta; of each batch its number, key and blocks, and of each step the answer, the record and what it writes. Then a batch on
+    sessions opened anew, in which either step that ends it is first called with keys that aren't usable: of such a call it has the key, the
+    answer and the record."""
     rng = random.Random(1032 + width)
     roots, delta = rng.randbytes(sizes.roots_length(width)), rng.randbytes(sizes.delta_length(width))
     siblings = honest_siblings(width, delta, roots)
     out = roots + siblings + delta
-    receiver = sender = batch.open_session(ready(0, 0), width)[1]
-    for number, blocks in ((1, 1), (MOST, 2), (MOST + 1, 1), (LAST, 1)):
+    new = batch.open_session(ready(0, 0), width)[1]
+    receiver = sender = new
+    for number, blocks, weak_keys in ((1, 1, ()), (MOST, 2, ()), (MOST + 1, 1, ()), (LAST, 1, ()), (2, 1, WEAK_KEYS)):
         key = rng.randrange(1 << 64)
+        if weak_keys:
+            receiver, sender, key = new, new, 2
         lengths = batch.start_lengths(width, blocks)
         started = batch.receiver_start(receiver, number, blocks, roots, *map(bytes, lengths[1:]))
         _, receiver, choices, v, correction = started
         corrected = batch.sender_correct(sender, number, blocks, siblings, delta, correction, bytes(lengths[2]))
         _, sender, w = corrected
         lengths = batch.answer_lengths(width, blocks)
-        answered = batch.receiver_answer(receiver, key, choices, v, *map(bytes, lengths[2:]))
-        _, receiver, message, _ = answered
-        verified = batch.sender_verify(sender, key, w, delta, message, bytes(sizes.sender_pads_length(width, blocks)))
-        sender = verified[1]
+        answers = [batch.receiver_answer(receiver, given, choices, v, *map(bytes, lengths[2:])) for given in (*weak_keys, key)]
+        _, receiver, message, _ = answers[-1]
+        both = bytes(sizes.sender_pads_length(width, blocks))
+        verdicts = [batch.sender_verify(sender, given, w, delta, message, both) for given in (*weak_keys, key)]
+        sender = verdicts[-1][1]
         out += long(number, key) + numbers(blocks)
-        for answer, after, *written in (started, corrected, answered, verified):
+        for *refused, (answer, after, *written) in ([started], [corrected], answers, verdicts):
+            for weak, (given, kept, *_) in zip(weak_keys, refused):
+                assert (given, kept) == (batch.WEAK_KEY, opened(width, number, blocks))
+                out += long(weak) + numbers(given) + record_bytes(kept)
             assert answer == batch.DONE
             out += numbers(answer) + record_bytes(after) + b"".join(written)
     return out
@@ -633,7 +770,7 @@ def demo():
         assert d.batch(number, blocks) == (ACCEPTED, sizes.transfers(8, blocks))
     d.text += "the receiver cheats: one bit of its correction is flipped\n"
     assert d.batch(4, 2, flip=1) == (REFUSED, 0)
-    assert d.sender == batch.Record(8, 4, 2, batch.CLOSED)
+    assert d.sender == closed(8, 4, 2)
     d.text += "a further batch\n"
     assert d.batch(5, 1) == ([batch.DONE, batch.STAGE, batch.DONE, batch.STAGE], 0)
     return d.text
@@ -663,6 +800,7 @@ def files():
         "crates/demo/stdout": demo().encode(),
         "tests/host/setup.bin": setup_cases(),
         "tests/host/files.bin": filecases.host_cases(),
+        "tests/host/writes.bin": filecases.host_writes(),
     }
     for width in setup.WIDTHS:
         out["tests/host/session%d.bin" % width] = session_cases(width)

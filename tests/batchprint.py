@@ -42,6 +42,7 @@ def cases():
     yield laid(8, 2, 0), "refused 3"
     yield laid(8, 2, 5, head=bytes([8, 16, 5, 0, 0, 0])), "refused 4"
     yield laid(8, 2, 5, key=bytes(7)), "refused 8"
+    yield laid(8, 2, 5, key=bytes([1]) + bytes(7)), "refused 9"
 
 
 wrong = 0

@@ -17,8 +17,8 @@ static inline void put_le(uint8_t *to, int bytes, uint64_t number) {
 
 static inline void put_le32(uint8_t *to, uint32_t number) { put_le(to, 4, number); }
 
-/* Lays contents and head; the other bodies stay as they are. The first kind is the setup, or the head where the setup is absent. Of a head
-   that is shorter than a long one, the first bytes are laid. Gives the file's length. */
+/* Lays contents, head and a usable key; the other bodies stay as they are. The first kind is the setup, or the head where the setup is
+   absent. Of a head that is shorter than a long one, the first bytes are laid. Gives the file's length. */
 static inline size_t lay_file(uint8_t *file, uint32_t first, struct lengths n, uint32_t width, uint32_t blocks, uint64_t batch) {
     uint8_t head[SOFTSPOKEN_FILE_HEAD_BYTES] = {(uint8_t)width, (uint8_t)blocks};
     uint32_t entries = SOFTSPOKEN_FILE_CHECK + 1 - first, at = SOFTSPOKEN_FILE_CONTENTS_BYTES(entries);
@@ -30,6 +30,7 @@ static inline size_t lay_file(uint8_t *file, uint32_t first, struct lengths n, u
         put_le32(entry + 4, at);
         put_le32(entry + 8, n.of[kind]);
         if (kind == SOFTSPOKEN_FILE_HEAD) memcpy(file + at, head, n.of[kind] < sizeof head ? n.of[kind] : sizeof head);
+        if (kind == SOFTSPOKEN_FILE_KEY) memset(file + at, 27, n.of[kind]);
         at += n.of[kind];
     }
     return at;

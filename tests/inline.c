@@ -57,7 +57,8 @@ static void names(void) {
     NAMED(SOFTSPOKEN_ERR_CHECK);
     NAMED(SOFTSPOKEN_ERR_CONTENTS);
     NAMED(SOFTSPOKEN_ERR_BODY);
-    for (uint32_t answer = 9; answer < 1000; answer++)
+    NAMED(SOFTSPOKEN_ERR_KEY);
+    for (uint32_t answer = 10; answer < 1000; answer++)
         expect(!strcmp(softspoken_answer_name(answer), "unknown answer"), "an answer that there is not", answer, 0);
     expect(!strcmp(softspoken_answer_name(UINT32_MAX), "unknown answer"), "the highest number", UINT32_MAX, 0);
 }

@@ -97,6 +97,8 @@ static void answer(uint32_t blocks, struct softspoken_record *receiver) {
     const size_t pads = SOFTSPOKEN_RECEIVER_PADS_BYTES(blocks);
     memset(message, 0, sizeof message);
     memset(receiver_pads, 0, pads);
+    STEP("refused key", softspoken_receiver_answer(receiver, 1, choices, len, v, table, RANGE(message), receiver_pads, pads),
+         SOFTSPOKEN_ERR_KEY, 0);
     DONE("receiver answer", softspoken_receiver_answer(receiver, key, choices, len, v, table, RANGE(message), receiver_pads, pads));
     expect_public("receiver answer", receiver, sizeof *receiver);
     expect_secret("check message", RANGE(message));
@@ -109,6 +111,10 @@ static void verify(uint32_t blocks, const struct softspoken_record *open) {
     const size_t table = SOFTSPOKEN_TABLE_BYTES(blocks), pads = SOFTSPOKEN_SENDER_PADS_BYTES(blocks);
     struct softspoken_record r;
     memset(sender_pads, 0, pads);
+    r = *open;
+    STEP("refused key", softspoken_sender_verify(&r, 1, w, table, RANGE(delta), RANGE(message), sender_pads, pads), SOFTSPOKEN_ERR_KEY, 0);
+    expect_public("refused key", &r, sizeof r);
+    expect_public("refused key", sender_pads, pads);
     for (size_t at = 8; at < sizeof message; at += 8 * 127) {
         r = *open;
         message[at] ^= 1;
@@ -131,28 +137,27 @@ static void batch(uint32_t width, uint32_t blocks) {
     verify(blocks, &sender);
 }
 
-/* What travelled in the batch before is written to a file, with a setup of so many bytes. All of it counts as secret here, the key's bytes
-   too, but contents and head must be public. */
+/* What travelled in the batch before is written to a file, with a setup of so many bytes. All of it but the key counts as secret here;
+   contents and head must be public. */
 static size_t write_file(uint32_t width, uint32_t blocks, size_t setup, uint8_t *file) {
-    static uint8_t sent_key[SOFTSPOKEN_FILE_KEY_BYTES];
+    static const uint8_t sent_key[SOFTSPOKEN_FILE_KEY_BYTES] = {27};
     const size_t len = SOFTSPOKEN_FILE_BYTES(width, blocks, setup), sent = SOFTSPOKEN_CORRECTION_BYTES(width, blocks);
     uint8_t *bodies = file + SOFTSPOKEN_FILE_CONTENTS_BYTES(setup ? 5 : 4), *head = bodies + setup;
     uint8_t *rest = head + SOFTSPOKEN_FILE_HEAD_BYTES;
     memset(file, 0, len);
-    hide(RANGE(sent_key));
     DONE("file write", softspoken_file_write(width, blocks, 1, setup_message, setup, correction, sent, RANGE(sent_key), RANGE(message),
                                              file, len));
     expect_public("contents of a file", file, bodies - file);
     if (setup) expect_secret("setup in a file", bodies, setup);
     expect_public("head in a file", head, rest - head);
     expect_secret("correction in a file", rest, sent);
-    expect_secret("key in a file", rest + sent, sizeof sent_key);
+    expect_public("key in a file", rest + sent, sizeof sent_key);
     expect_secret("check message in a file", rest + sent + sizeof sent_key, sizeof message);
     return len;
 }
 
-/* The reader is steered by contents and head alone, and tells nothing of the other bodies. Between blocks and batch the struct has bytes
-   that mean nothing. */
+/* The reader is steered by contents, head and key alone, and tells nothing of the other bodies. Between blocks and batch the struct has
+   bytes that mean nothing. */
 static void file(uint32_t width, uint32_t blocks, size_t setup) {
     static uint8_t kept[SOFTSPOKEN_FILE_MAX];
     const size_t len = write_file(width, blocks, setup, kept);

@@ -78,9 +78,10 @@ impl Step {
         match self {
             ReceiverSetup | SenderSetup => &[0, 1, 5],
             Open => &[0, 1],
-            ReceiverStart | SenderCorrect | ReceiverAnswer => &[0, 1, 2, 3, 4, 5],
-            SenderVerify => &[0, 1, 2, 3, 4, 5, 6],
-            FileWrite => &[0, 1, 3, 4, 5, 8],
+            ReceiverStart | SenderCorrect => &[0, 1, 2, 3, 4, 5],
+            ReceiverAnswer => &[0, 1, 2, 3, 4, 5, 9],
+            SenderVerify => &[0, 1, 2, 3, 4, 5, 6, 9],
+            FileWrite => &[0, 1, 3, 4, 5, 8, 9],
         }
     }
 
@@ -134,6 +135,17 @@ impl Call {
             self.blocks
         };
         (width, blocks)
+    }
+
+    /// The same call with key 2, if it has key 1.
+    pub fn two_for_one(&self) -> Option<Call> {
+        let mut other = self.clone();
+        match self.step {
+            ReceiverAnswer | SenderVerify if self.key == 1 => other.key = 2,
+            FileWrite if self.ranges[2] == 1u64.to_le_bytes() => other.ranges[2] = 2u64.to_le_bytes().to_vec(),
+            _ => return None,
+        }
+        Some(other)
     }
 
     fn lent<const N: usize>(&self) -> [&[u8]; N] {

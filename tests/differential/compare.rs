@@ -3,25 +3,19 @@
 use crate::call::{Call, Outcome, Step, STEPS};
 use crate::files;
 use crate::library::{self, File, Lent, Record};
+use crate::plant::{Fault, Plant};
 use crate::random::Random;
-use crate::twin::batch::CHECK;
+use crate::twin::batch::{CHECK, WEAK_KEY};
 use crate::twin::file;
 use crate::twin::setup::DONE;
 use std::ops::Range;
 
 /// A byte that differs, or that was altered on purpose. Bytes are numbered from the part's first: below 0 is the guard before it.
 #[derive(PartialEq)]
-struct Place {
-    call: usize,
-    part: &'static str,
-    byte: isize,
-}
-
-/// One bit of what the library leaves, altered before the comparison.
-struct Plant {
-    random: Random,
-    call: usize,
-    place: Option<Place>,
+pub struct Place {
+    pub call: usize,
+    pub part: &'static str,
+    pub byte: isize,
 }
 
 pub struct Comparison {
@@ -47,7 +41,7 @@ pub struct Comparison {
 const PRINTED: usize = 10;
 
 /// How many answers there are.
-const ANSWERS: usize = 9;
+const ANSWERS: usize = 10;
 
 /// Where the reads of files are counted.
 const FILES: usize = STEPS.len() + 1;
@@ -59,7 +53,7 @@ fn parts(number: usize, answer: u32, record: Record, ranges: &[Vec<u8>]) -> Vec<
     out
 }
 
-fn library_leaves(number: usize, call: &Call) -> Vec<Lent> {
+pub fn library_leaves(number: usize, call: &Call) -> Vec<Lent> {
     let mut out = parts(number, 0, call.record, &call.ranges);
     let (head, ranges) = out.split_at_mut(2);
     head[0] = Lent::new(&library::made(call, &mut head[1], ranges).to_ne_bytes(), 0);
@@ -82,19 +76,13 @@ fn written(call: &Call, done: bool) -> Range<usize> {
 
 impl Comparison {
     /// At least so many calls must follow: one of them gets the planted difference, if there is to be one.
-    pub fn new(seed: u64, least: usize, plant: bool) -> Comparison {
-        let mut apart = Random::new(!seed);
-        let at = apart.below(least.max(1));
+    pub fn new(seed: u64, least: usize, plant: Option<Fault>) -> Comparison {
         Comparison {
             random: Random::new(seed),
             seed,
             limit: 0,
             made: 0,
-            plant: plant.then_some(Plant {
-                random: apart,
-                call: at,
-                place: None,
-            }),
+            plant: plant.map(|fault| Plant::new(fault, seed, least)),
             differences: vec![],
             counts: [[0; ANSWERS]; FILES + 1],
             damaged: [0; 2],
@@ -136,8 +124,12 @@ impl Comparison {
         let outcome = call.twin();
         let expected = parts(self.made, outcome.answer, outcome.record, &outcome.ranges);
         let left = library_leaves(self.made, call);
+        let mut shown = left.clone();
+        if let Some(plant) = self.plant.as_mut().filter(|_| outcome.answer == WEAK_KEY) {
+            plant.key(self.made, call, &mut shown);
+        }
         let written = written(call, outcome.answer == DONE);
-        self.compare(&names(call), &mut left.clone(), &expected, written, &|| call.told());
+        self.compare(&names(call), &mut shown, &expected, written, &|| call.told());
         self.counts[call.step as usize][outcome.answer as usize] += 1;
         (outcome, left)
     }
@@ -158,7 +150,11 @@ impl Comparison {
             lent.clone(),
         ];
         let given = library::read(&mut lent);
-        let mut left = [Lent::new(&given.answer.to_ne_bytes(), 0), Lent::new(&given.bytes(), 0), lent];
+        let mut shown = given;
+        if let Some(plant) = self.plant.as_mut().filter(|_| found.answer == WEAK_KEY) {
+            plant.key_in_file(self.made, file, &mut shown);
+        }
+        let mut left = [Lent::new(&shown.answer.to_ne_bytes(), 0), Lent::new(&shown.bytes(), 0), lent];
         let told = || format!("file_read: {} bytes, contents {:02x?}", file.len(), &file[..file.len().min(64)]);
         self.compare(&["answer", "found", "file"], &mut left, &expected, 0..2, &told);
         self.counts[FILES][found.answer as usize] += 1;
@@ -173,10 +169,10 @@ impl Comparison {
         }
     }
 
-    /// Compares what a call left part by part, after a difference was planted in one of those written, if it is this call's turn.
+    /// Compares what a call left part by part, after a bit was planted in one of those written, if it is this call's turn.
     fn compare(&mut self, names: &[&'static str], left: &mut [Lent], expected: &[Lent], written: Range<usize>, told: &dyn Fn() -> String) {
-        if let Some(plant) = self.plant.as_mut().filter(|plant| plant.call == self.made) {
-            plant.alter(names, written, left);
+        if let Some(plant) = &mut self.plant {
+            plant.bit(self.made, names, written, left);
         }
         for ((name, mine), theirs) in names.iter().zip(left).zip(expected) {
             self.compare_part(name, mine, theirs, told);
@@ -243,7 +239,7 @@ impl Comparison {
         );
         match &self.plant {
             None => i32::from(!self.differences.is_empty() || !missing.is_empty()),
-            Some(plant) => 2 - i32::from(plant.place.is_some() && self.differences.iter().eq(&plant.place)),
+            Some(plant) => 2 - i32::from(plant.seen(&self.differences)),
         }
     }
 
@@ -271,22 +267,5 @@ impl Comparison {
             out.push("a pair of batches apart in the upper half".to_string());
         }
         out
-    }
-}
-
-impl Plant {
-    /// Flips a bit of one of the parts that the call wrote.
-    fn alter(&mut self, names: &[&'static str], written: Range<usize>, left: &mut [Lent]) {
-        let part = written.start + self.random.below(written.len());
-        let lent = &mut left[part];
-        let byte = self.random.below(lent.length);
-        lent.all[lent.before + byte] ^= 1 << self.random.below(8);
-        let place = Place {
-            call: self.call,
-            part: names[part],
-            byte: byte as isize,
-        };
-        println!("planted: call {}, {} byte {}", place.call, place.part, place.byte);
-        self.place = Some(place);
     }
 }

@@ -92,9 +92,24 @@ pub fn batches_apart(random: &mut Random) -> [u64; 2] {
     }
 }
 
+/// A key that isn't usable.
+pub fn weak_key(random: &mut Random) -> u64 {
+    random.pick(&[0, 1])
+}
+
+/// One that is: among the first or the highest, or one of which some bytes alone, or all in the other order, would be 0 or 1; or any.
+pub fn usable_key(random: &mut Random) -> u64 {
+    let (byte, other) = (1 << (8 * (1 + random.below(7))), random.number().max(2));
+    random.pick(&[2, 3, byte, byte, byte + 1, 1 << 63, u64::MAX, other, other, other, other, other])
+}
+
+/// One in eight isn't usable.
 pub fn key(random: &mut Random) -> u64 {
-    let other = random.number();
-    random.pick(&[0, 1, u64::MAX, other, other, other, other, other])
+    if random.one_in(8) {
+        weak_key(random)
+    } else {
+        usable_key(random)
+    }
 }
 
 /// Mostly in the stage that the step needs.

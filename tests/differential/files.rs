@@ -3,13 +3,13 @@
 use crate::compare::Comparison;
 use crate::draw;
 use crate::random::Random;
-use crate::twin::file::{self, HEAD, KINDS, SETUP};
+use crate::twin::file::{self, HEAD, KEY, KINDS, SETUP};
 use crate::twin::setup::DONE;
 use crate::twin::sizes;
 use crate::writes;
 
 /// The answers that reading can give: include/softspoken.h.
-pub const ANSWERS: [u32; 6] = [0, 1, 3, 4, 7, 8];
+pub const ANSWERS: [u32; 7] = [0, 1, 3, 4, 7, 8, 9];
 
 /// One file. At least one thing is altered, but it may be one that doesn't matter: what the library finds is then written.
 pub fn play(comparison: &mut Comparison) {
@@ -40,6 +40,7 @@ fn right(random: &mut Random) -> Vec<(u32, Vec<u8>)> {
     kinds
         .map(|kind| match kind {
             HEAD => (kind, head.clone()),
+            KEY => (kind, draw::usable_key(random).to_le_bytes().to_vec()),
             _ => (kind, random.bytes(file::body_length(width as usize, blocks as usize, kind))),
         })
         .collect()
@@ -55,11 +56,19 @@ fn right_head(random: &mut Random, width: u8, blocks: u8) -> Vec<u8> {
     }
 }
 
-/// The head says something else, or a body has another length; the contents will say so.
+/// The body of a kind that every file has.
+fn body_of(bodies: &mut [(u32, Vec<u8>)], of: u32) -> &mut Vec<u8> {
+    &mut bodies.iter_mut().find(|(kind, _)| *kind == of).unwrap().1
+}
+
+/// The head says something else, or a body has another length, and the contents will say so; or the key isn't usable.
 fn misstate(random: &mut Random, bodies: &mut [(u32, Vec<u8>)]) {
+    if random.one_in(5) {
+        return weak_key(random, body_of(bodies, KEY));
+    }
     let at = random.below(bodies.len());
     let (width, blocks, other) = (draw::allowed_width(random), draw::allowed_blocks(random), random.below(20001));
-    let head = &mut bodies.iter_mut().find(|(kind, _)| *kind == HEAD).unwrap().1;
+    let head = body_of(bodies, HEAD);
     if file::head_length_right(head.len()) {
         match random.below(8) {
             0 => return head[0] = draw::wrong_width(random) as u8,
@@ -74,6 +83,12 @@ fn misstate(random: &mut Random, bodies: &mut [(u32, Vec<u8>)]) {
     let (now, named) = (body.len(), file::body_length(width as usize, blocks as usize, *kind));
     let length = random.pick(&[now.saturating_sub(1), now + 1, 0, 5, 10, named, other]);
     body.resize(length, 0x5a);
+}
+
+/// The key isn't usable; its body stays as long as it is.
+fn weak_key(random: &mut Random, key: &mut [u8]) {
+    key.fill(0);
+    key.iter_mut().take(1).for_each(|byte| *byte = draw::weak_key(random) as u8);
 }
 
 /// The head's batch number is another, that may be 0, or 0 in one half.

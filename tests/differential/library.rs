@@ -16,7 +16,10 @@ pub struct Record {
 
 impl Record {
     /// The bytes up to the stage's end. Those that follow it mean nothing.
-    const FIELDS: usize = 20;
+    const FIELDS: usize = Record::STAGE + 4;
+
+    /// Where the stage begins.
+    pub const STAGE: usize = 16;
 
     /// What stands in each byte after the stage: not 0, so that a step that looks there is seen.
     const AFTER: u8 = 0x5a;

@@ -2,11 +2,12 @@
 //! read, then some are written, and then come the calls, which are those of the steps. A file that is taken is also written again, and one
 //! that is written is read. Two batches whose numbers differ in the upper half alone are also compared with each other.
 //!
-//! usage: differential [--seed N] [--files N] [--writes N] [--calls N] [--plant]
+//! usage: differential [--seed N] [--files N] [--writes N] [--calls N] [--plant bit|one|late|closed]
 //!
-//! Run from the repository's root. Exit status 0 if the library and the twin agree and every answer was given; 1 if not. With --plant one
-//! bit of what the library leaves is altered, and the status is 1 if just that is reported, 2 if not. The files depend on the seed alone,
-//! the writes on the seed and the number of files, and the calls on both numbers too: fewer are the first ones.
+//! Run from the repository's root. Exit status 0 if the library and the twin agree and every answer was given; 1 if not. With --plant what
+//! the library leaves is altered in one call: a bit, or as it would be if key 1 were usable, if the key came after the lengths, or if a key
+//! closed the record. The status is then 1 if just that is reported, 2 if not. The files depend on the seed alone, the writes on the seed
+//! and the number of files, and the calls on both numbers too: fewer are the first ones.
 
 mod apart;
 mod call;
@@ -15,6 +16,7 @@ mod draw;
 mod files;
 mod library;
 mod pair;
+mod plant;
 mod random;
 mod sessions;
 mod singles;
@@ -23,6 +25,7 @@ mod twin;
 mod writes;
 
 use compare::Comparison;
+use plant::Fault;
 use std::process::exit;
 
 struct Options {
@@ -30,7 +33,7 @@ struct Options {
     files: usize,
     writes: usize,
     calls: usize,
-    plant: bool,
+    plant: Option<Fault>,
 }
 
 fn options() -> Option<Options> {
@@ -39,7 +42,7 @@ fn options() -> Option<Options> {
         files: 10000,
         writes: 10000,
         calls: 40000,
-        plant: false,
+        plant: None,
     };
     let mut given = std::env::args().skip(1);
     while let Some(option) = given.next() {
@@ -48,7 +51,7 @@ fn options() -> Option<Options> {
             "--files" => out.files = given.next()?.parse().ok()?,
             "--writes" => out.writes = given.next()?.parse().ok()?,
             "--calls" => out.calls = given.next()?.parse().ok()?,
-            "--plant" => out.plant = true,
+            "--plant" => out.plant = Some(Fault::named(&given.next()?)?),
             _ => return None,
         }
     }
@@ -67,13 +70,14 @@ fn play(comparison: &mut Comparison) -> Option<()> {
 
 fn main() {
     let options = options().unwrap_or_else(|| {
-        eprintln!("usage: differential [--seed N] [--files N] [--writes N] [--calls N] [--plant]");
+        eprintln!("usage: differential [--seed N] [--files N] [--writes N] [--calls N] [--plant bit|one|late|closed]");
         exit(2)
     });
     stored::published();
     stored::setups();
     stored::sessions();
     stored::files();
+    stored::writes();
     let mut comparison = Comparison::new(options.seed, options.files + options.writes + options.calls, options.plant);
     for _ in 0..options.files {
         files::play(&mut comparison);

@@ -94,8 +94,11 @@ impl Session<'_> {
     fn batch(&mut self) -> Option<()> {
         let last = self.pair.sides.iter().map(|side| side.record.last).max().unwrap();
         let random = &mut self.comparison.random;
-        (self.pair.batch, self.pair.blocks, self.pair.key) =
-            (draw::batch_above(random, last), draw::allowed_blocks(random), draw::key(random));
+        (self.pair.batch, self.pair.blocks, self.pair.key) = (
+            draw::batch_above(random, last),
+            draw::allowed_blocks(random),
+            draw::usable_key(random),
+        );
         let damage = self.damage();
         let mut damaged = false;
         for step in BATCH {
@@ -118,7 +121,8 @@ impl Session<'_> {
         Some(())
     }
 
-    /// Now and then, wrong calls before the step: another step, a wrong length, an open, or another number. Some of them are done.
+    /// Now and then, wrong calls before the step: another step, a wrong length, an open, another number, or a key that isn't usable. Some
+    /// of them are done.
     fn wrong(&mut self, step: Step) -> Option<()> {
         while self.random().one_in(5) {
             let mut side = side_of(step);
@@ -143,6 +147,12 @@ impl Session<'_> {
                 (2, Step::ReceiverStart | Step::SenderCorrect) => call.batch = draw::batch_near(random, call.record.last),
                 (3, Step::ReceiverStart | Step::SenderCorrect) => call.blocks = draw::blocks(random),
                 (2 | 3, Step::ReceiverSetup | Step::SenderSetup) => call.width = draw::wrong_width(random),
+                (2 | 3, Step::ReceiverAnswer | Step::SenderVerify) => {
+                    call.key = draw::weak_key(random);
+                    if random.one_in(3) {
+                        draw::wrong_length(random, &mut call);
+                    }
+                }
                 _ => draw::wrong_length(random, &mut call),
             }
             self.make(side, call)?;

@@ -38,6 +38,7 @@ pub fn sweep(comparison: &mut Comparison) -> Option<()> {
         stage: batch::OPEN,
     };
     let mut call = drawn(random, Step::SenderVerify, record);
+    call.key = draw::usable_key(random);
     fit(&mut call);
     comparison.call(call.clone())?;
     for fold in 0..1 + sizes::columns(record.width as usize) {

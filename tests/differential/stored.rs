@@ -1,7 +1,7 @@
 //! Holds the twin to published vectors, and to the cases that reference/write.py stored (its setup_cases and session_cases, and those of
-//! reference/filecases.py).
+//! reference/filecases.py: cases and host_writes).
 
-use crate::call::BATCH;
+use crate::call::{Call, Outcome, BATCH};
 use crate::library::Record;
 use crate::pair::{side_of, Pair, RECEIVER, SENDER};
 use crate::random::Random;
@@ -106,21 +106,31 @@ pub fn sessions() {
     }
 }
 
+/// Four batches; then one on records that are opened anew, each of whose last two steps is first called with two keys that aren't usable.
 fn session(width: u32, mut file: Stored) {
-    let mut pair = Pair::new(width, [open_session(Record::default(), width).1; 2]);
+    let new = open_session(Record::default(), width).1;
+    let mut pair = Pair::new(width, [new; 2]);
     let k = width as usize;
     let lengths = [sizes::roots_length(k), sizes::siblings_length(k), sizes::delta_length(k)];
     let [roots, siblings, delta] = lengths.map(|n| file.bytes(n));
     pair.sides[RECEIVER].held.insert("roots", roots);
     pair.sides[SENDER].held.extend([("siblings", siblings), ("delta", delta)]);
-    for _ in 0..4 {
+    for batch in 0..5 {
         (pair.batch, pair.key, pair.blocks) = (file.long(), file.long(), file.number());
-        for step in BATCH {
-            let call = pair.call(&mut Random::new(0), side_of(step), step);
-            let outcome = call.twin();
+        if batch == 4 {
+            pair.sides.iter_mut().for_each(|side| side.record = new);
+        }
+        for (at, step) in BATCH.into_iter().enumerate() {
+            let mut call = pair.call(&mut Random::new(0), side_of(step), step);
+            for _ in 0..if batch == 4 && at >= 2 { 2 } else { 0 } {
+                call.key = file.long();
+                let outcome = answered(&mut file, &call);
+                assert!(outcome.ranges == call.ranges, "{}: ranges", call.told());
+                call.record = outcome.record;
+            }
+            call.key = pair.key;
+            let outcome = answered(&mut file, &call);
             let mut expected = call.ranges.clone();
-            assert!(outcome.answer == file.number(), "{}: answer", call.told());
-            assert!(outcome.record == file.record(), "{}: record", call.told());
             expected[step.read().len()..]
                 .iter_mut()
                 .for_each(|range| *range = file.bytes(range.len()));
@@ -129,6 +139,34 @@ fn session(width: u32, mut file: Stored) {
         }
     }
     file.end();
+}
+
+/// What the twin says of a call, of which the stored file has the answer and the record.
+fn answered(file: &mut Stored, call: &Call) -> Outcome {
+    let outcome = call.twin();
+    assert!(outcome.answer == file.number(), "{}: answer", call.told());
+    assert!(outcome.record == file.record(), "{}: record", call.told());
+    outcome
+}
+
+/// Calls of the writer: the values, the lengths of the bodies and of the range for the file, the bodies, the answer, and where it is done
+/// the file.
+pub fn writes() {
+    let mut stored = Stored::new("tests/host/writes.bin");
+    while !stored.ended() {
+        let (width, blocks, batch) = (stored.number(), stored.number(), stored.long());
+        let lengths: [usize; 5] = std::array::from_fn(|_| stored.number() as usize);
+        let bodies: [Vec<u8>; 4] = std::array::from_fn(|i| stored.bytes(lengths[i]));
+        let before = vec![0; lengths[4]];
+        let [setup, correction, key, check] = &bodies;
+        let (answer, after) = file::write_batch(width, blocks, batch, [setup, correction, key, check, &before]);
+        assert!(answer == stored.number(), "write that ends at {}: answer {answer}", stored.at);
+        assert!(
+            after.iter().all(|file| *file == stored.bytes(file.len())),
+            "write that ends at {}",
+            stored.at
+        );
+    }
 }
 
 /// What a record of the program files asks for.

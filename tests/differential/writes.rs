@@ -1,5 +1,5 @@
-//! Calls of the writer that would be done, but for numbers and lengths altered at random; and what reading a file found, written again.
-//! What the library writes it must read.
+//! Calls of the writer that would be done, but for numbers, lengths and keys altered at random; and what reading a file found, written
+//! again. What the library writes it must read.
 
 use crate::call::{Call, Step};
 use crate::compare::Comparison;
@@ -9,8 +9,9 @@ use crate::random::Random;
 use crate::twin::setup::DONE;
 use crate::twin::sizes;
 
-/// Where the setup and the file are among the ranges; all before the file's are bodies.
+/// Where the setup, the key and the file are among the ranges; all before the file's are bodies.
 const SETUP: usize = 0;
+const KEY: usize = 2;
 const FILE: usize = 4;
 
 /// One call, with mostly one or two things altered.
@@ -64,6 +65,7 @@ fn right(random: &mut Random) -> Call {
     let batch = draw::batch_above(random, 0);
     let lengths = Step::FileWrite.lengths(width, blocks).into_iter();
     let mut call = call_of(width, blocks, batch, lengths.map(|length| random.bytes(length)).collect());
+    call.ranges[KEY] = draw::usable_key(random).to_le_bytes().to_vec();
     if random.one_in(2) {
         call.ranges[SETUP].clear();
         fit(&mut call);
@@ -78,9 +80,9 @@ fn fit(call: &mut Call) {
     call.ranges[FILE].resize(length, 0x5a);
 }
 
-/// Alters a number or a length. Where it is a body's, the file's range may follow, so that it isn't that which is refused.
+/// Alters a number, the key or a length. Where it is a body's, the file's range may follow, so that it isn't that which is refused.
 fn alter(random: &mut Random, call: &mut Call) {
-    match random.below(9) {
+    match random.below(10) {
         0 => {
             let (allowed, wrong) = (draw::allowed_width(random), draw::wrong_width(random));
             return call.width = other_number(random, call.width, allowed, wrong);
@@ -91,9 +93,10 @@ fn alter(random: &mut Random, call: &mut Call) {
         }
         2 => return call.batch = draw::batch_near(random, 0),
         3 | 4 => return other_file(random, call),
-        5 => other_setup(random, call),
-        6 => exchange(random, call),
-        7 => as_asked(call),
+        5 => return call.ranges[KEY] = draw::weak_key(random).to_le_bytes().to_vec(),
+        6 => other_setup(random, call),
+        7 => exchange(random, call),
+        8 => as_asked(call),
         _ => draw::wrong_length(random, call),
     }
     if random.one_in(2) {

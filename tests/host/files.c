@@ -105,8 +105,15 @@ static void expect_refused(struct batch b, size_t n, uint32_t answer) {
 
 /* From the last refusal to the first, each with the faults of those before it left in. This is the right length. */
 static void expect_refusals(struct batch b, size_t n) {
+    static const uint8_t weak[2][SOFTSPOKEN_FILE_KEY_BYTES] = {{0}, {1}};
     expect_refused(b, n - 1, SOFTSPOKEN_ERR_LENGTH);
     expect_refused(b, n + 1, SOFTSPOKEN_ERR_LENGTH);
+    for (int key = 0; key < 2; key++) {
+        b.key.bytes = weak[key];
+        expect_refused(b, n, SOFTSPOKEN_ERR_KEY);
+        expect_refused(b, n - 1, SOFTSPOKEN_ERR_KEY);
+        expect_refused(b, n + 1, SOFTSPOKEN_ERR_KEY);
+    }
     struct batch other = b;
     other.correction.len++, other.key.len--; /* together they are as long as before */
     expect_refused(other, n, SOFTSPOKEN_ERR_BODY);
@@ -161,14 +168,15 @@ static uint32_t reads(FILE *f) {
 
 int main(int argc, char **argv) {
     const uint32_t answers[] = {SOFTSPOKEN_DONE,      SOFTSPOKEN_ERR_WIDTH,    SOFTSPOKEN_ERR_BATCH,
-                                SOFTSPOKEN_ERR_BLOCKS, SOFTSPOKEN_ERR_CONTENTS, SOFTSPOKEN_ERR_BODY};
-    unsigned given[SOFTSPOKEN_ERR_BODY + 1] = {0};
+                                SOFTSPOKEN_ERR_BLOCKS, SOFTSPOKEN_ERR_CONTENTS, SOFTSPOKEN_ERR_BODY,
+                                SOFTSPOKEN_ERR_KEY};
+    unsigned given[SOFTSPOKEN_ERR_KEY + 1] = {0};
     FILE *f = argc == 2 ? fopen(argv[1], "rb") : NULL;
     if (!f) return 2;
     for (int c; (c = fgetc(f)) != EOF && wrong < 10;) {
         ungetc(c, f);
         const uint32_t answer = reads(f);
-        if (answer <= SOFTSPOKEN_ERR_BODY) given[answer]++;
+        if (answer <= SOFTSPOKEN_ERR_KEY) given[answer]++;
     }
     fclose(f);
     for (size_t i = 0; i < sizeof answers / sizeof *answers; i++) {

@@ -57,16 +57,26 @@ static void done(void) {
     shows(SOFTSPOKEN_FILE_MAX + 2, "refused: SOFTSPOKEN_ERR_CONTENTS\n");
 }
 
+/* A file with a setup and key 1, which isn't usable. */
+static size_t lay_weak(struct lengths n, uint32_t width, uint32_t blocks, uint64_t batch) {
+    const size_t len = lay_file(laid, SOFTSPOKEN_FILE_SETUP, n, width, blocks, batch);
+    uint8_t *key = laid + len - n.of[SOFTSPOKEN_FILE_CHECK] - n.of[SOFTSPOKEN_FILE_KEY];
+    memset(key, 0, n.of[SOFTSPOKEN_FILE_KEY]);
+    key[0] = 1;
+    return len;
+}
+
 /* From the last refusal to the first, each with the faults of those before it left in. */
 static void refused(void) {
     struct lengths n = lengths_for(1, 1);
+    shows(lay_weak(n, 1, 1, 1), "refused: SOFTSPOKEN_ERR_KEY\n");
     n.of[SOFTSPOKEN_FILE_KEY]++;
-    shows(lay_file(laid, SOFTSPOKEN_FILE_SETUP, n, 1, 1, 1), "refused: SOFTSPOKEN_ERR_BODY\n");
-    shows(lay_file(laid, SOFTSPOKEN_FILE_SETUP, n, 1, 16, 1), "refused: SOFTSPOKEN_ERR_BLOCKS\n");
-    shows(lay_file(laid, SOFTSPOKEN_FILE_SETUP, n, 1, 16, 0), "refused: SOFTSPOKEN_ERR_BATCH\n");
-    shows(lay_file(laid, SOFTSPOKEN_FILE_SETUP, n, 3, 16, 0), "refused: SOFTSPOKEN_ERR_WIDTH\n");
+    shows(lay_weak(n, 1, 1, 1), "refused: SOFTSPOKEN_ERR_BODY\n");
+    shows(lay_weak(n, 1, 16, 1), "refused: SOFTSPOKEN_ERR_BLOCKS\n");
+    shows(lay_weak(n, 1, 16, 0), "refused: SOFTSPOKEN_ERR_BATCH\n");
+    shows(lay_weak(n, 3, 16, 0), "refused: SOFTSPOKEN_ERR_WIDTH\n");
     n.of[SOFTSPOKEN_FILE_HEAD]--;
-    const size_t len = lay_file(laid, SOFTSPOKEN_FILE_SETUP, n, 3, 16, 0);
+    const size_t len = lay_weak(n, 3, 16, 0);
     shows(len, "refused: SOFTSPOKEN_ERR_BODY\n");
     shows(len - 1, "refused: SOFTSPOKEN_ERR_CONTENTS\n");
 }

@@ -1,6 +1,6 @@
 /* Plays both sides of a session of width WIDTH as a host program does, on the batches that the second implementation stored: after each
    call the answer, the record and every byte of every range must be what that implementation gives. Before each step it is called with
-   faults, and must refuse and leave everything; a wrong check message must close the session. */
+   faults, and must refuse and leave everything; a wrong check message must close the session, but not under a key that isn't usable. */
 #include "../../include/softspoken.h"
 #include <stdio.h>
 #include <string.h>
@@ -78,6 +78,11 @@ static void refused(struct call c, struct softspoken_record r, uint32_t answer) 
     compare(&c, &r, answer, r, &before);
 }
 
+/* A step that ends a batch, with each key that isn't usable. */
+static void refused_keys(struct call c, struct softspoken_record r) {
+    for (c.key = 0; c.key < 2; c.key++) refused(c, r, SOFTSPOKEN_ERR_KEY);
+}
+
 /* Each length one short and one long; then a fault for each refusal, from the last to the first, with those before it left in. */
 static void refusals(struct call c, struct softspoken_record r) {
     const int opens = c.step == START || c.step == CORRECT;
@@ -88,7 +93,12 @@ static void refusals(struct call c, struct softspoken_record r) {
         refused(c, r, SOFTSPOKEN_ERR_LENGTH);
         c.n[at]--;
     }
+    if (!opens) refused_keys(c, r);
     c.n[3]--;
+    if (!opens) {
+        refused_keys(c, r);
+        c.key = 1;
+    }
     *(opens ? &c.blocks : &r.blocks) = 16;
     refused(c, r, SOFTSPOKEN_ERR_BLOCKS);
     *(opens ? &c.blocks : &r.blocks) = 0;
@@ -111,12 +121,13 @@ static void refusals(struct call c, struct softspoken_record r) {
     refused(c, r, SOFTSPOKEN_ERR_WIDTH);
 }
 
-/* One wrong bit of the message closes the session; every step is then refused, until it is opened anew. */
+/* One wrong bit of the message closes the session, if the key is usable; every step is then refused, until it is opened anew. */
 static void closes(const struct call *verify, struct softspoken_record r) {
     lent.message[8] ^= 1;
     const struct ranges before = lent;
     const struct softspoken_record closed = record_of(r.width, r.last, r.blocks, SOFTSPOKEN_STAGE_CLOSED);
     const struct softspoken_record new = record_of(WIDTH, 0, 0, SOFTSPOKEN_STAGE_READY);
+    refused_keys(*verify, r);
     compare(verify, &r, SOFTSPOKEN_ERR_CHECK, closed, &before);
     for (enum step step = START; step <= VERIFY; step++) refused(call_of(step, 7, verify->blocks, verify->key), r, SOFTSPOKEN_ERR_STAGE);
     expect(softspoken_open(&r, WIDTH) == SOFTSPOKEN_DONE && same(&r, &new), "open", "a closed session isn't opened anew");
@@ -154,8 +165,19 @@ static void take_written(FILE *f, const struct call *c, struct ranges *a) {
     if (c->step == VERIFY) take(f, a->both, n[3]);
 }
 
-/* The two steps that open the batch, then the two that end it; records are the receiver's and the sender's. */
-static void batch(FILE *f, struct softspoken_record records[2]) {
+/* Calls of a step with keys that aren't usable: of each the file has the key, the answer and the record. The ranges stay. */
+static void weak_keys(FILE *f, struct call c, struct softspoken_record *r) {
+    const struct ranges before = lent;
+    for (int n = 0; n < 2; n++) {
+        c.key = take_number(f, 8);
+        const uint32_t answer = (uint32_t)take_number(f, 4);
+        compare(&c, r, answer, take_record(f), &before);
+    }
+}
+
+/* The two steps that open the batch, then the two that end it, in a weak batch after calls with keys that aren't usable; records are the
+   receiver's and the sender's. */
+static void batch(FILE *f, struct softspoken_record records[2], int weak) {
     static struct ranges after;
     const uint64_t number = take_number(f, 8), key = take_number(f, 8);
     uint32_t blocks = (uint32_t)take_number(f, 4);
@@ -163,6 +185,7 @@ static void batch(FILE *f, struct softspoken_record records[2]) {
     for (enum step step = START; step <= VERIFY; step++) {
         const struct call c = call_of(step, number, blocks, key);
         refusals(c, records[step % 2]);
+        if (weak && step >= ANSWER) weak_keys(f, c, &records[step % 2]);
         if (step == VERIFY) closes(&c, records[1]);
         after = lent;
         const uint32_t answer = (uint32_t)take_number(f, 4);
@@ -195,13 +218,16 @@ int main(int argc, char **argv) {
     opens(&records[0]);
     opens(&records[1]);
     /* the second has number 2^32 - 1, and the third the next; the fourth the highest, and none is above it */
-    for (int n = 0; n < 4; n++) batch(f, records);
+    for (int n = 0; n < 4; n++) batch(f, records, 0);
     expect(records[0].last == UINT64_MAX && records[1].last == UINT64_MAX, "stored", "the last batch has another number");
     const uint64_t numbers[] = {0, 1, UINT32_MAX, (uint64_t)UINT32_MAX + 1, UINT64_MAX - 1, UINT64_MAX};
     for (int i = 0; i < 6; i++) {
         refused(call_of(START, numbers[i], 1, 0), records[0], SOFTSPOKEN_ERR_BATCH);
         refused(call_of(CORRECT, numbers[i], 1, 0), records[1], SOFTSPOKEN_ERR_BATCH);
     }
+    opens(&records[0]);
+    opens(&records[1]);
+    batch(f, records, 1);
     expect(fgetc(f) == EOF, "stored", "the file is too long");
     fclose(f);
     printf("host: %u calls of the steps of a session of width %u, %u differences\n", calls, (unsigned)WIDTH, wrong);

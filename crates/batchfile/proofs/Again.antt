@@ -17,7 +17,7 @@ use Rattle.rules.proofs.Fits.{FileTells}
 use Rattle.batchfile.specs.File.{countOf, fieldAt, lengthAt, placeAt, bodyAt, contentsRight, kindOf, present, entryOf, bodyOf, headIn, headOf, Taken}
 use Rattle.batchfile.specs.Laid.{total, placeIn, entryIn, contentsIn, laid, headBytes, bodiesOf, hasSetup, bodyFor, laidLast, fileWith}
 use Rattle.batchfile.proofs.Contents.{standing, body-fits, body-is, none-below}
-use Rattle.batchfile.proofs.Reading.{head-cases, head-body}
+use Rattle.batchfile.proofs.Reading.{head-cases, body-there}
 use Rattle.batchfile.proofs.Laid.{laid-same}
 use Rattle.batchfile.proofs.Taken.{taken-tells, setup-there}
 use Rattle.batchfile.proofs.Batch.{Allowed, present-with}
@@ -158,13 +158,13 @@ module _ (file : Range) (taken : Taken file) where
       let there : present (countOf file) 1 ≡ hasSetup (bodiesOf file) = ap (λ (m : ℕ). present m 1) (sym same-count) ∙ present-with (length (bodyOf file 1)) in
       subst
       (λ (t : Bool). FileTells (headOf file .width) (headOf file .batch) (headOf file .blocks) t
-      (length (bodyOf file 1)) (length (bodyOf file 3)) (length (bodyOf file 4)) (length (bodyOf file 5)))
+      (length (bodyOf file 1)) (length (bodyOf file 3)) (length (bodyOf file 4)) (length (bodyOf file 5)) (littleEndian (bodyOf file 4)))
       there (taken-tells file taken .values)
 
   -- its head holds bytes, and so its batch number has 64 bits
   pub head-bytes : Bytes file → Bytes (bodyOf file 2)
   head-bytes h =
-      subst Bytes (sym (head-body file right))
+      subst Bytes (sym (body-there file right 2 (omega arith) (omega arith)))
       (part-lt (placeAt file (entryOf (countOf file) 2)) (length (bodyOf file 2)) file 256 (zero-lt-suc 255) h)
 
   pub batch-fits : Bytes file → headOf file .batch < 2 ^ 64

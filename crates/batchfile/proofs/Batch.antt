@@ -74,15 +74,17 @@ laid-size head b = here (eqb (length (b .setup)) 0) (eqb-true (length (b .setup)
     here true absent = omega (arith, laid-length 4 (λ e. bodyFor head b (kindOf 4 e)), absent refl)
     here false absent = omega (arith, laid-length 5 (λ e. bodyFor head b (kindOf 5 e)))
 
--- 1, 3, 4 and 8, of head values and bodies
+-- 1, 3, 4, 8 and 9, of head values and bodies
 abbrev pub valuesFor : (h : FileHead) (there : Bool) (b : Bodies) → Order
 valuesFor h there b =
     fileOrder (h .width) (h .batch) (h .blocks) there (length (b .setup)) (length (b .correction)) (length (b .key)) (length (b .check))
+    (littleEndian (b .key))
 
 -- none of them is given
 abbrev pub Allowed : (h : FileHead) (b : Bodies) → Type 0
 Allowed h b =
     FileTells (h .width) (h .batch) (h .blocks) (hasSetup b) (length (b .setup)) (length (b .correction)) (length (b .key)) (length (b .check))
+    (littleEndian (b .key))
 
 -- then 4 bytes hold the file's length
 pub allowed-small : (head : Range) (h : FileHead) (b : Bodies) → length head ≤ headLength → Allowed h b → length (fileWith head b) < 2 ^ 32

@@ -87,18 +87,19 @@ head-there file at head least fits =
     ∙ ap₂ (λ (x y : ℕ). record { width = x; blocks = y; batch = littleEndian (part (at + 2) (head - 2) file) })
     (byte 0 at (omega arith) (omega arith)) (byte 1 (at + 1) (omega arith) (omega arith))
 
--- a file's head stands at the place of its entry, and in the file
-module _ (file : List ℕ) (right : contentsRight file ≡ true) where
+-- ---- each body but the setup stands at the place of its entry, and in the file
+
+module _ (file : List ℕ) (right : contentsRight file ≡ true) (kind : ℕ) (lo : 2 ≤ kind) (hi : kind ≤ 5) where
   abbrev e : ℕ
-  e = entryOf (countOf file) 2
+  e = entryOf (countOf file) kind
 
-  pub head-body : bodyOf file 2 ≡ part (placeAt file e) (length (bodyOf file 2)) file
-  head-body =
+  pub body-there : bodyOf file kind ≡ part (placeAt file e) (length (bodyOf file kind)) file
+  body-there =
       let n = standing file right .counts in
-      body-is file 2 (omega (arith, n .least)) (omega arith)
-      ∙ ap (λ (m : ℕ). part (placeAt file e) m file) (sym (body-length file right 2 (omega (arith, n .least)) (omega arith)))
+      body-is file kind (omega (arith, n .least)) hi
+      ∙ ap (λ (m : ℕ). part (placeAt file e) m file) (sym (body-length file right kind (omega (arith, n .least)) hi))
 
-  pub head-fits : placeAt file e + length (bodyOf file 2) ≤ length file
-  head-fits =
+  pub body-inside : placeAt file e + length (bodyOf file kind) ≤ length file
+  body-inside =
       let n = standing file right .counts in
-      omega (arith, body-length file right 2 (omega (arith, n .least)) (omega arith), body-fits file right e (omega (arith, n .least)))
+      omega (arith, body-length file right kind (omega (arith, n .least)) hi, body-fits file right e (omega (arith, n .least)))

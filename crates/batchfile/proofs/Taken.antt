@@ -8,6 +8,7 @@ use native.Mathlib.Omega.{arith}
 use native.Mathlib.Decide.{ℕ-discrete}
 use lib.ListN.{length}
 use borrow.Author.Tests.{eqb-true}
+use Rattle.words.specs.Bytes.{littleEndian}
 use Rattle.answer.specs.Answer.{isDone}
 use Rattle.sizes.specs.Sizes.{widthAllowed, contentsLength, setupMessageLength, correctionLength}
 use Rattle.sizes.proofs.Widths.{width-cases}
@@ -17,12 +18,13 @@ use Rattle.batchfile.specs.File.{countOf, placeAt, contentsRight, presen
 use Rattle.batchfile.proofs.Contents.{standing, place-first, place-more, none-below, body-length}
 use Rattle.batchfile.proofs.Reading.{read-all, head-most}
 
--- its contents are right, its head has one of its two lengths, and the head's values and the bodies' lengths keep their bounds
+-- its contents are right, its head has one of its two lengths, the head's values and the bodies' lengths keep their bounds, and its key is
+-- usable
 pub record TakenTells (file : List ℕ) : Type 0 where
   pub right : contentsRight file ≡ true
   pub head-right : headRight (length (bodyOf file 2)) ≡ true
   pub values : FileTells (headOf file .width) (headOf file .batch) (headOf file .blocks) (present (countOf file) 1)
-      (length (bodyOf file 1)) (length (bodyOf file 3)) (length (bodyOf file 4)) (length (bodyOf file 5))
+      (length (bodyOf file 1)) (length (bodyOf file 3)) (length (bodyOf file 4)) (length (bodyOf file 5)) (littleEndian (bodyOf file 4))
 
 pub taken-tells : (file : List ℕ) → Taken file → TakenTells file
 taken-tells file taken =
@@ -32,7 +34,7 @@ taken-tells file taken =
       head-right = all .1 .0;
       values =
           file-fits (headOf file .width) (headOf file .batch) (headOf file .blocks) (present (countOf file) 1)
-          (length (bodyOf file 1)) (length (bodyOf file 3)) (length (bodyOf file 4)) (length (bodyOf file 5)) (all .1 .1);
+          (length (bodyOf file 1)) (length (bodyOf file 3)) (length (bodyOf file 4)) (length (bodyOf file 5)) (littleEndian (bodyOf file 4)) (all .1 .1);
     }
 
 -- a file is its contents and its bodies

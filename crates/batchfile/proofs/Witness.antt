@@ -8,7 +8,7 @@ use native.Mathlib.Nat.{zero-lt-suc}
 use native.Mathlib.Omega.{arith}
 use lib.Dec.{eqb}
 use lib.ListN.{length, getD}
-use Rattle.words.specs.Bytes.{Range, Bytes, bytes, concat}
+use Rattle.words.specs.Bytes.{Range, Bytes, littleEndian, bytes, concat}
 use Rattle.words.proofs.Concat.{append-bytes, concat-lt}
 use Rattle.words.proofs.Numbers.{bytes-lt}
 use Rattle.answer.specs.declared.Answer.the-variants.{Body}
@@ -44,7 +44,7 @@ laid-holds head right h b fits a =
       taken =
           answer-laid s b small
           ∙ ap (λ (x : FileHead). firstOf ((headRight (length s), Body) ∷ valuesFor x (hasSetup b) b)) back
-          ∙ done-when ((headRight (length s), Body) ∷ valuesFor h (hasSetup b) b) (ap headRight long ∙ right, file-holds _ _ _ _ _ _ _ _ a);
+          ∙ done-when ((headRight (length s), Body) ∷ valuesFor h (hasSetup b) b) (ap headRight long ∙ right, file-holds _ _ _ _ _ _ _ _ _ a);
       head-long = ap length (head-laid s b small) ∙ long;
       head-is = ap headIn (head-laid s b small) ∙ back;
       bodies-are = bodies-laid s b small;
@@ -83,7 +83,7 @@ laid-bytes head h b setup correction key check =
 module _ (head : ℕ) (head-right : headRight head ≡ true) (h : FileHead) (allowed : widthAllowed (h .width) ≡ true) (some : 0 < h .batch)
     (fits : h .batch < 256 ^ (head - 2)) (least : 1 ≤ h .blocks) (few : h .blocks ≤ mostBlocks) (correction key check : Range)
     (correction-long : length correction ≡ correctionLength (h .width) (h .blocks)) (key-long : length key ≡ keyLength)
-    (check-long : length check ≡ checkMessageLength) where
+    (check-long : length check ≡ checkMessageLength) (usable : 2 ≤ littleEndian key) where
   abbrev with : (setup : Range) → Bodies
   with setup = bodiesWith setup correction key check
 
@@ -103,6 +103,7 @@ module _ (head : ℕ) (head-right : headRight head ≡ true) (h : FileHead) (all
           correction-long = correction-long;
           key-long = key-long;
           check-long = check-long;
+          usable = usable;
         }),
     laid-bytes head h (with setup),
   )

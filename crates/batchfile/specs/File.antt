@@ -1,4 +1,4 @@
--- A batch on file. Paper 02, notes 1 and 3. Assumes nothing.
+-- A batch on file. Paper 02, notes 1, 3 and 5. Assumes nothing.
 use mathlib.Core.Path.{_≡_}
 use mathlib.Core.Bool.{Bool, cond, _&&_, _||_}
 use mathlib.Core.List.{[], _∷_}
@@ -83,11 +83,11 @@ headOf file = headIn (bodyOf file 2)
 
 -- ---- what is read
 
--- 1, 3 for batch 0, and 4 on the head; last 8 if a body's length isn't the one its kind has for that head
+-- 1, 3 for batch 0, and 4 on the head; 8 if a body's length isn't the one its kind has for that head; last 9 for the key's 8-byte number
 abbrev pub valuesOrder : (file : Range) → Order
 valuesOrder file =
-    fileOrder (headOf file .width) (headOf file .batch) (headOf file .blocks)
-    (present (countOf file) 1) (length (bodyOf file 1)) (length (bodyOf file 3)) (length (bodyOf file 4)) (length (bodyOf file 5))
+    fileOrder (headOf file .width) (headOf file .batch) (headOf file .blocks) (present (countOf file) 1) (length (bodyOf file 1))
+    (length (bodyOf file 3)) (length (bodyOf file 4)) (length (bodyOf file 5)) (littleEndian (bodyOf file 4))
 
 -- 7 before these; and a head of neither length gets 8 before 1
 abbrev pub readOrder : (file : Range) → Order

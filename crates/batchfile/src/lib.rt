@@ -183,11 +183,13 @@ fn head_of(file: &[u8], n: usize) -> FileHead
     head_at(file, at, length_of(file, n, 2))
 }
 
-// The answer of the head's values and the bodies' lengths.
+// The answer of the head's values, the bodies' lengths and the key, which is read where it stands.
 fn values_answer(file: &[u8], n: usize, head: FileHead) -> Answer
     requires { ⌜ (contentsRight (now file) ≡ true) × (n ≡ countOf (now file)) × (head ≡ headOf (now file)) ⌝ }
     ensures { λ r. ⌜ r ≡ firstOf (valuesOrder (now (file .entry))) ⌝ }
 {
+    let key = place_of(file, n, 4);
+    let end = key + length_of(file, n, 4);
     values::answer(
         head.width,
         head.batch,
@@ -195,7 +197,7 @@ fn values_answer(file: &[u8], n: usize, head: FileHead) -> Answer
         n == 5,
         setup_length(file, n),
         length_of(file, n, 3),
-        length_of(file, n, 4),
+        &file[key..end],
         length_of(file, n, 5),
     )
 }

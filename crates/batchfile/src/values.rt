@@ -1,9 +1,12 @@
-// The answer that the values of a head and the lengths of the bodies get. Each function returns at once: a file is read in some
+// The answer that the values of a head, the lengths of the bodies and the key get. Each function returns at once: a file is read in some
 // nanoseconds, of which a chain of conditions would take a third.
 use answer::Answer;
 ghost use mathlib.Core.Path.{_≡_};
+ghost use lib.ListN.{length};
+ghost use Rattle.words.specs.Bytes.{littleEndian};
+ghost use Rattle.sizes.specs.Sizes.{keyLength};
 ghost use Rattle.answer.specs.Answer.{firstOf};
-ghost use Rattle.rules.specs.Orders.{headOrder, headRight, setupRight, bodiesRight, fileOrder};
+ghost use Rattle.rules.specs.Orders.{keyUsable, headOrder, headRight, setupRight, bodiesRight, fileOrder};
 
 // The answer of the head's values.
 fn head_answer(width: u32, batch: u64, blocks: u32) -> Answer
@@ -65,7 +68,15 @@ fn bodies_right(
     correction == sizes::correction_length(width, blocks)
 }
 
-// The answer of both.
+// Whether the number in a key's body is usable.
+fn key_right(key: &[u8]) -> bool
+    requires { ⌜ length (now key) ≡ keyLength ⌝ }
+    ensures { λ r. ⌜ r ≡ keyUsable (littleEndian (now (key .entry))) ⌝ }
+{
+    rules::key_usable(words::load64(key, 0))
+}
+
+// The answer of all three. The key comes last: only a body of its length holds a key.
 pub fn answer(
     width: u32,
     batch: u64,
@@ -73,15 +84,18 @@ pub fn answer(
     present: bool,
     setup: usize,
     correction: usize,
-    key: usize,
+    key: &[u8],
     check: usize,
 ) -> Answer
-    ensures { λ x. ⌜ x ≡ firstOf (fileOrder width batch blocks present setup correction key check) ⌝ }
+    ensures { λ x. ⌜ x ≡ firstOf (fileOrder width batch blocks present setup correction (length (now (key .entry))) check (littleEndian (now (key .entry)))) ⌝ }
 {
     let a = head_answer(width, batch, blocks);
     if answer::is_done(a) {
-        if bodies_right(width, blocks, present, setup, correction, key, check) {
-            return Answer::Done;
+        if bodies_right(width, blocks, present, setup, correction, key.len(), check) {
+            if key_right(key) {
+                return Answer::Done;
+            }
+            return Answer::Key;
         }
         return Answer::Body;
     }

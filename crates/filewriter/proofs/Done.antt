@@ -32,8 +32,8 @@ unfolding writeAnswer
 write-tells h b file done =
     let all = all-hold (writeOrder h b file) refl done in
     record {
-      allowed = file-fits _ _ _ _ _ _ _ _ (all .0, (all .1 .0, (all .1 .1 .0, (all .1 .1 .1 .0, tt))));
-      exact = eqb-true file (lengthOf h b) (all .1 .1 .1 .1 .0);
+      allowed = file-fits _ _ _ _ _ _ _ _ _ (all .0, (all .1 .0, (all .1 .1 .0, (all .1 .1 .1 .0, (all .1 .1 .1 .1 .0, tt)))));
+      exact = eqb-true file (lengthOf h b) (all .1 .1 .1 .1 .1 .0);
     }
 
 -- and then it is done
@@ -42,4 +42,4 @@ unfolding writeAnswer
 write-done h b file t =
     let last : AllHold (has file (lengthOf h b) ∷ []) = (eq-eqb file (lengthOf h b) (t .exact), tt) in
     done-when (writeOrder h b file)
-    (hold-more (valuesFor h (hasSetup b) b) (has file (lengthOf h b) ∷ []) (file-holds _ _ _ _ _ _ _ _ (t .allowed)) last)
+    (hold-more (valuesFor h (hasSetup b) b) (has file (lengthOf h b) ∷ []) (file-holds _ _ _ _ _ _ _ _ _ (t .allowed)) last)

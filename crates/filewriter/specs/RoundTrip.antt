@@ -1,4 +1,4 @@
--- What is said of writing and reading, over all that the writer and the reader promise. Paper 02, note 4. Assumes nothing.
+-- What is said of writing and reading, over all that the writer and the reader promise. Paper 02, notes 4 and 5. Assumes nothing.
 use mathlib.Core.Path.{_≡_}
 use mathlib.Core.List.{[]}
 use mathlib.Core.Logic.{_↔_}
@@ -57,8 +57,8 @@ SameBytes =
 abbrev pub AbsentEmpty : Type 0
 AbsentEmpty = (file : Range) (h : FileHead) (p : Places) → ReadFile file Done h p → (countOf file ≡ 4) ↔ (bodyBetween file p 1 ≡ [])
 
--- 4. The writer gives 1, 3, 4 and 8 as the reader does to the file laid out of the same numbers and bodies, and then 5: for numbers that
--- have room in a head, and any bodies in a file whose length 4 bytes hold
+-- 4. The writer gives 1, 3, 4, 8 and 9 as the reader does to the file laid out of the same numbers and bodies, and then 5: for numbers
+-- that have room in a head, and any bodies in a file whose length 4 bytes hold
 abbrev pub AsTheReader : Type 0
 AsTheReader =
     (h : FileHead) (b : Bodies) → h .width < 256 → h .blocks < 256 → h .batch < 2 ^ 64 → length (fileOf h b) < 2 ^ 32

@@ -6,7 +6,7 @@ ghost use mathlib.Core.List.{[], _∷_, _++_};
 ghost use Prim.Native.Nat.{_^_, _≤_, _<_};
 ghost use lib.Dec.{eqb};
 ghost use lib.ListN.{length};
-ghost use Rattle.words.specs.Bytes.{bytes};
+ghost use Rattle.words.specs.Bytes.{littleEndian, bytes};
 ghost use Rattle.words.specs.Pieces.{Room, Laid};
 ghost use Rattle.answer.specs.Answer.{firstOf};
 ghost use Rattle.sizes.specs.Sizes.{widthAllowed, setupMessageLength, headLength, entriesWith, fileLength};
@@ -54,11 +54,11 @@ fn write_answer(
     batch: u64,
     setup: usize,
     correction: usize,
-    key: usize,
+    key: &[u8],
     check: usize,
     file: usize,
 ) -> Answer
-    ensures { λ x. ⌜ x ≡ firstOf (fileOrder width batch blocks (not (eqb setup 0)) setup correction key check ++ (has file (fileLength width blocks setup) ∷ [])) ⌝ }
+    ensures { λ x. ⌜ x ≡ firstOf (fileOrder width batch blocks (not (eqb setup 0)) setup correction (length (now (key .entry))) check (littleEndian (now (key .entry))) ++ (has file (fileLength width blocks setup) ∷ [])) ⌝ }
 {
     let there = is_there(setup);
     let answer = batchfile::values::answer(
@@ -166,7 +166,7 @@ pub fn write(
         batch,
         setup.len(),
         correction.len(),
-        key.len(),
+        key,
         check.len(),
         file.len(),
     );

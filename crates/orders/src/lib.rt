@@ -61,13 +61,14 @@ fn open_batch(r: Record, batch: u64, blocks: u32) -> Answer
 }
 
 // The answer of both steps that end one, before their lengths.
-fn end_batch(r: Record) -> Answer
-    ensures { λ x. ⌜ x ≡ firstOf (endOrder r) ⌝ }
+fn end_batch(r: Record, key: u64) -> Answer
+    ensures { λ x. ⌜ x ≡ firstOf (endOrder r key) ⌝ }
 {
     let mut a = open_session(r.width);
     a = answer::next(a, r.stage == rules::OPEN, Answer::Stage);
     a = answer::next(a, 0 < r.last, Answer::Batch);
-    answer::next(a, rules::blocks_allowed(r.blocks), Answer::Blocks)
+    a = answer::next(a, rules::blocks_allowed(r.blocks), Answer::Blocks);
+    answer::next(a, rules::key_usable(key), Answer::Key)
 }
 
 // The answer of the receiver's start.
@@ -111,14 +112,15 @@ pub fn sender_correct(
 // The answer of the receiver's answer.
 pub fn receiver_answer(
     r: Record,
+    key: u64,
     choices: usize,
     table: usize,
     message: usize,
     pads: usize,
 ) -> Answer
-    ensures { λ x. ⌜ x ≡ firstOf (answerOrder r choices table message pads) ⌝ }
+    ensures { λ x. ⌜ x ≡ firstOf (answerOrder r key choices table message pads) ⌝ }
 {
-    let mut a = end_batch(r);
+    let mut a = end_batch(r, key);
     a = has(a, choices, sizes::column_length(r.blocks));
     a = has(a, table, sizes::table_length(r.blocks));
     a = has(a, message, sizes::CHECK_MESSAGE_LENGTH);
@@ -126,10 +128,17 @@ pub fn receiver_answer(
 }
 
 // The answer of the sender's verify, up to its check.
-pub fn sender_verify(r: Record, table: usize, delta: usize, message: usize, pads: usize) -> Answer
-    ensures { λ x. ⌜ x ≡ firstOf (beforeCheck r table delta message pads) ⌝ }
+pub fn sender_verify(
+    r: Record,
+    key: u64,
+    table: usize,
+    delta: usize,
+    message: usize,
+    pads: usize,
+) -> Answer
+    ensures { λ x. ⌜ x ≡ firstOf (beforeCheck r key table delta message pads) ⌝ }
 {
-    let mut a = end_batch(r);
+    let mut a = end_batch(r, key);
     a = has(a, table, sizes::table_length(r.blocks));
     a = has(a, delta, sizes::DELTA_LENGTH);
     a = has(a, message, sizes::CHECK_MESSAGE_LENGTH);

@@ -1,11 +1,11 @@
 -- What the conditions on numbers say. Assumes nothing.
 use mathlib.Core.Path.{_≡_}
-use mathlib.Core.Bool.{true, and-eq-true-iff}
+use mathlib.Core.Bool.{true, false, and-eq-true-iff}
 use Prim.Native.Nat.{ℕ, _≤_, _<_}
 use native.Mathlib.Omega.{arith}
 use lib.Dec.{leb, ltb}
-use borrow.Author.Tests.{leb-true, le-leb, lt-ltb}
-use Rattle.rules.specs.Orders.{blocksAllowed, batchFollows}
+use borrow.Author.Tests.{leb-true, le-leb, lt-leb, lt-ltb}
+use Rattle.rules.specs.Orders.{blocksAllowed, batchFollows, keyUsable}
 
 pub blocks-fit : (blocks : ℕ) → blocksAllowed blocks ≡ true → (1 ≤ blocks) × (blocks ≤ 15)
 blocks-fit blocks e =
@@ -17,3 +17,12 @@ blocks-allowed blocks low high = and-eq-true-iff (leb 1 blocks) (leb blocks 15) 
 
 pub batch-follows : (last batch : ℕ) → last < batch → batchFollows last batch ≡ true
 batch-follows last batch h = and-eq-true-iff (ltb 0 batch) (ltb last batch) .1 (lt-ltb 0 batch (omega arith), lt-ltb last batch h)
+
+pub key-fits : (key : ℕ) → keyUsable key ≡ true → 2 ≤ key
+key-fits key e = leb-true 2 key e
+
+pub key-usable : (key : ℕ) → 2 ≤ key → keyUsable key ≡ true
+key-usable key h = le-leb 2 key h
+
+pub key-weak : (key : ℕ) → key < 2 → keyUsable key ≡ false
+key-weak key h = lt-leb 2 key h

@@ -11,7 +11,7 @@ use Rattle.answer.proofs.Order.{AllHold, all-hold}
 use Rattle.sizes.specs.Sizes.{widthAllowed, columnLength, deltaLength, rootsLength, setupMessageLength, siblingsLength, tableLength, correctionLength, checkMessageLength, receiverPadsLength, senderPadsLength, keyLength}
 use Rattle.rules.specs.declared.Record.{Record}
 use Rattle.rules.specs.Orders.{mostBlocks, startOrder, correctOrder, answerOrder, beforeCheck, setupRight, bodiesRight, fileOrder}
-use Rattle.rules.proofs.Allowed.{blocks-fit, blocks-allowed}
+use Rattle.rules.proofs.Allowed.{blocks-fit, blocks-allowed, key-fits, key-usable}
 
 -- the receiver's start
 pub record StartTells (r : Record) (blocks roots choices table correction : ℕ) : Type 0 where
@@ -62,21 +62,23 @@ correct-fits r batch blocks siblings delta correction table e =
     }
 
 -- the receiver's answer
-pub record AnswerTells (r : Record) (choices table message pads : ℕ) : Type 0 where
+pub record AnswerTells (r : Record) (key choices table message pads : ℕ) : Type 0 where
   pub few : r .blocks ≤ 15
+  pub usable : 2 ≤ key
   pub choices-long : choices ≡ columnLength (r .blocks)
   pub table-long : table ≡ tableLength (r .blocks)
   pub message-long : message ≡ checkMessageLength
   pub pads-long : pads ≡ receiverPadsLength (r .blocks)
 
-pub answer-fits : (r : Record) (choices table message pads : ℕ) → isDone (firstOf (answerOrder r choices table message pads)) ≡ true
-    → AnswerTells r choices table message pads
-answer-fits r choices table message pads e =
-    let h = all-hold (answerOrder r choices table message pads) refl e in
+pub answer-fits : (r : Record) (key choices table message pads : ℕ) → isDone (firstOf (answerOrder r key choices table message pads)) ≡ true
+    → AnswerTells r key choices table message pads
+answer-fits r key choices table message pads e =
+    let h = all-hold (answerOrder r key choices table message pads) refl e in
     let blocks-hold = h .1 .1 .1 in
-    let lengths = blocks-hold .1 in
+    let lengths = blocks-hold .1 .1 in
     record {
       few = blocks-fit (r .blocks) (blocks-hold .0) .1;
+      usable = key-fits key (blocks-hold .1 .0);
       choices-long = eqb-true choices _ (lengths .0);
       table-long = eqb-true table _ (lengths .1 .0);
       message-long = eqb-true message _ (lengths .1 .1 .0);
@@ -84,56 +86,39 @@ answer-fits r choices table message pads e =
     }
 
 -- the sender's verify, before its check
-pub record VerifyTells (r : Record) (table delta message pads : ℕ) : Type 0 where
+pub record VerifyTells (r : Record) (key table delta message pads : ℕ) : Type 0 where
   pub few : r .blocks ≤ 15
+  pub usable : 2 ≤ key
   pub table-long : table ≡ tableLength (r .blocks)
   pub delta-long : delta ≡ deltaLength
   pub message-long : message ≡ checkMessageLength
   pub pads-long : pads ≡ senderPadsLength (r .blocks)
 
-pub verify-fits : (r : Record) (table delta message pads : ℕ) → AllHold (beforeCheck r table delta message pads) → VerifyTells r table delta message pads
-verify-fits r table delta message pads h =
+pub verify-fits : (r : Record) (key table delta message pads : ℕ) → AllHold (beforeCheck r key table delta message pads)
+    → VerifyTells r key table delta message pads
+verify-fits r key table delta message pads h =
     let blocks-hold = h .1 .1 .1 in
-    let lengths = blocks-hold .1 in
+    let lengths = blocks-hold .1 .1 in
     record {
       few = blocks-fit (r .blocks) (blocks-hold .0) .1;
+      usable = key-fits key (blocks-hold .1 .0);
       table-long = eqb-true table _ (lengths .0);
       delta-long = eqb-true delta _ (lengths .1 .0);
       message-long = eqb-true message _ (lengths .1 .1 .0);
       pads-long = eqb-true pads _ (lengths .1 .1 .1 .0);
     }
 
--- a batch on file
-pub record FileTells (width batch blocks : ℕ) (there : Bool) (setup correction key check : ℕ) : Type 0 where
-  pub width-right : widthAllowed width ≡ true
-  pub some : 0 < batch
-  pub least : 1 ≤ blocks
-  pub few : blocks ≤ mostBlocks
-  pub setup-long : setupRight there setup ≡ true
-  pub correction-long : correction ≡ correctionLength width blocks
-  pub key-long : key ≡ keyLength
-  pub check-long : check ≡ checkMessageLength
-
-pub file-fits : (width batch blocks : ℕ) (there : Bool) (setup correction key check : ℕ) → AllHold (fileOrder width batch blocks there setup correction key check)
-    → FileTells width batch blocks there setup correction key check
-file-fits width batch blocks there setup correction key check h =
+-- the bodies of a batch on file: each has its length
+pub bodies-fit : (width blocks : ℕ) (there : Bool) (setup correction key check : ℕ) → bodiesRight width blocks there setup correction key check ≡ true
+    → (setupRight there setup ≡ true) × (key ≡ keyLength) × (check ≡ checkMessageLength) × (correction ≡ correctionLength width blocks)
+bodies-fit width blocks there setup correction key check h =
     let named : ℕ = correctionLength width blocks in
-    let blocks-hold = h .1 .1 in
-    let bodies = and-eq-true-iff (setupRight there setup) (eqb key keyLength && (eqb check checkMessageLength && eqb correction named)) .0 (blocks-hold .1 .0) in
+    let bodies = and-eq-true-iff (setupRight there setup) (eqb key keyLength && (eqb check checkMessageLength && eqb correction named)) .0 h in
     let others = and-eq-true-iff (eqb key keyLength) (eqb check checkMessageLength && eqb correction named) .0 (bodies .1) in
     let last = and-eq-true-iff (eqb check checkMessageLength) (eqb correction named) .0 (others .1) in
-    record {
-      width-right = h .0;
-      some = ltb-true 0 batch (h .1 .0);
-      least = blocks-fit blocks (blocks-hold .0) .0;
-      few = blocks-fit blocks (blocks-hold .0) .1;
-      setup-long = bodies .0;
-      correction-long = eqb-true correction named (last .1);
-      key-long = eqb-true key keyLength (others .0);
-      check-long = eqb-true check checkMessageLength (last .0);
-    }
+    (bodies .0, eqb-true key keyLength (others .0), eqb-true check checkMessageLength (last .0), eqb-true correction named (last .1))
 
--- and its bodies have their lengths where each has
+-- and they are right where each has
 pub bodies-right : (width blocks : ℕ) (there : Bool) (setup correction key check : ℕ) → setupRight there setup ≡ true → key ≡ keyLength → check ≡ checkMessageLength
     → correction ≡ correctionLength width blocks → bodiesRight width blocks there setup correction key check ≡ true
 bodies-right width blocks there setup correction key check s k m e =
@@ -146,16 +131,50 @@ bodies-right width blocks there setup correction key check s k m e =
       ),
     )
 
+-- a batch on file
+pub record FileTells (width batch blocks : ℕ) (there : Bool) (setup correction key check keyNumber : ℕ) : Type 0 where
+  pub width-right : widthAllowed width ≡ true
+  pub some : 0 < batch
+  pub least : 1 ≤ blocks
+  pub few : blocks ≤ mostBlocks
+  pub setup-long : setupRight there setup ≡ true
+  pub correction-long : correction ≡ correctionLength width blocks
+  pub key-long : key ≡ keyLength
+  pub check-long : check ≡ checkMessageLength
+  pub usable : 2 ≤ keyNumber
+
+pub file-fits : (width batch blocks : ℕ) (there : Bool) (setup correction key check keyNumber : ℕ)
+    → AllHold (fileOrder width batch blocks there setup correction key check keyNumber)
+    → FileTells width batch blocks there setup correction key check keyNumber
+file-fits width batch blocks there setup correction key check keyNumber h =
+    let blocks-hold = h .1 .1 in
+    let bodies = bodies-fit width blocks there setup correction key check (blocks-hold .1 .0) in
+    record {
+      width-right = h .0;
+      some = ltb-true 0 batch (h .1 .0);
+      least = blocks-fit blocks (blocks-hold .0) .0;
+      few = blocks-fit blocks (blocks-hold .0) .1;
+      setup-long = bodies .0;
+      correction-long = bodies .3;
+      key-long = bodies .1;
+      check-long = bodies .2;
+      usable = key-fits keyNumber (blocks-hold .1 .1 .0);
+    }
+
 -- where this is told, all conditions hold
-pub file-holds : (width batch blocks : ℕ) (there : Bool) (setup correction key check : ℕ) → FileTells width batch blocks there setup correction key check
-    → AllHold (fileOrder width batch blocks there setup correction key check)
-file-holds width batch blocks there setup correction key check t = (
+pub file-holds : (width batch blocks : ℕ) (there : Bool) (setup correction key check keyNumber : ℕ)
+    → FileTells width batch blocks there setup correction key check keyNumber
+    → AllHold (fileOrder width batch blocks there setup correction key check keyNumber)
+file-holds width batch blocks there setup correction key check keyNumber t = (
   t .width-right,
   (
     lt-ltb 0 batch (t .some),
     (
       blocks-allowed blocks (t .least) (t .few),
-      (bodies-right width blocks there setup correction key check (t .setup-long) (t .key-long) (t .check-long) (t .correction-long), tt),
+      (
+        bodies-right width blocks there setup correction key check (t .setup-long) (t .key-long) (t .check-long) (t .correction-long),
+        (key-usable keyNumber (t .usable), tt),
+      ),
     ),
   ),
 )

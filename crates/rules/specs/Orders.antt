@@ -8,7 +8,7 @@ use Rattle.sizes.specs.Sizes.{setupMessageLength, siblingsLength}
 use Rattle.sizes.specs.Sizes.{columnLength, tableLength, correctionLength, checkMessageLength, receiverPadsLength, senderPadsLength}
 use Rattle.sizes.specs.Sizes.{headLength, shortHeadLength, keyLength}
 use Rattle.answer.specs.declared.Answer.{Answer}
-use Rattle.answer.specs.declared.Answer.the-variants.{Width, Stage, Batch, Blocks, Length, Check, Body}
+use Rattle.answer.specs.declared.Answer.the-variants.{Width, Stage, Batch, Blocks, Length, Check, Body, Key}
 use Rattle.answer.specs.Answer.{Order}
 use Rattle.rules.specs.declared.Record.{Record}
 
@@ -52,6 +52,10 @@ blocksAllowed blocks = leb 1 blocks && leb blocks mostBlocks
 -- 3 if the number is 0 or not above the last
 abbrev pub batchFollows : (last batch : ℕ) → Bool
 batchFollows last batch = ltb 0 batch && ltb last batch
+
+-- paper 02, note 5: a usable key is 2 or above
+abbrev pub keyUsable : (key : ℕ) → Bool
+keyUsable key = leb 2 key
 
 -- 5 if a byte range, which enters by its length, has any but the one named
 abbrev pub has : (found named : ℕ) → Bool × Answer
@@ -110,37 +114,35 @@ correctOrder r batch blocks siblings delta correction table =
 
 -- ---- the two that end it
 
--- both begin so. 1; 2 unless open; 3 if last is 0; 4
-abbrev pub endOrder : (r : Record) → Order
-endOrder r =
+-- both begin so. 1; 2 unless open; 3 if last is 0; 4; paper 02, note 5: 9 unless the key is usable
+abbrev pub endOrder : (r : Record) (key : ℕ) → Order
+endOrder r key =
     (widthAllowed (r .width), Width)
     ∷ (eqb (r .stage) stageOpen, Stage)
     ∷ (ltb 0 (r .last), Batch)
-    ∷ (blocksAllowed (r .blocks), Blocks) ∷ []
+    ∷ (blocksAllowed (r .blocks), Blocks) ∷ (keyUsable key, Key) ∷ []
 
 -- chooser answer: key, u_0, V; check message out 1,032, pads out 2,048 × P
-abbrev pub answerOrder : (r : Record) (choices table message pads : ℕ) → Order
-answerOrder r choices table message pads =
-    endOrder r
-    ++ (has choices (columnLength (r .blocks))
+abbrev pub answerOrder : (r : Record) (key choices table message pads : ℕ) → Order
+answerOrder r key choices table message pads =
+    endOrder r key ++ (has choices (columnLength (r .blocks))
     ∷ has table (tableLength (r .blocks))
     ∷ has message checkMessageLength
     ∷ has pads (receiverPadsLength (r .blocks)) ∷ [])
 
--- keeper verdict: key, W, D, check message; pads out 4,096 × P. 1, 2, 3, 4, 5 as in the answer
-abbrev pub beforeCheck : (r : Record) (table delta message pads : ℕ) → Order
-beforeCheck r table delta message pads =
-    endOrder r
-    ++ (has table (tableLength (r .blocks))
+-- keeper verdict: key, W, D, check message; pads out 4,096 × P. 1, 2, 3, 4, 9, 5 as in the answer
+abbrev pub beforeCheck : (r : Record) (key table delta message pads : ℕ) → Order
+beforeCheck r key table delta message pads =
+    endOrder r key ++ (has table (tableLength (r .blocks))
     ∷ has delta deltaLength
     ∷ has message checkMessageLength
     ∷ has pads (senderPadsLength (r .blocks)) ∷ [])
 
 -- then 6
-abbrev pub verifyOrder : (r : Record) (table delta message pads : ℕ) (accepted : Bool) → Order
-verifyOrder r table delta message pads accepted = beforeCheck r table delta message pads ++ ((accepted, Check) ∷ [])
+abbrev pub verifyOrder : (r : Record) (key table delta message pads : ℕ) (accepted : Bool) → Order
+verifyOrder r key table delta message pads accepted = beforeCheck r key table delta message pads ++ ((accepted, Check) ∷ [])
 
--- ---- a batch on file. Paper 02, notes 1, 3 and 4
+-- ---- a batch on file. Paper 02, notes 1, 3, 4 and 5
 
 -- head values keep paper 01's bounds: 1, 3 for batch 0, and 4
 abbrev pub headOrder : (width batch blocks : ℕ) → Order
@@ -159,7 +161,8 @@ abbrev pub bodiesRight : (width blocks : ℕ) (present : Bool) (setup correction
 bodiesRight width blocks present setup correction key check =
     setupRight present setup && (eqb key keyLength && (eqb check checkMessageLength && eqb correction (correctionLength width blocks)))
 
--- last 8 if a body's length isn't the one its kind has for that head
-abbrev pub fileOrder : (width batch blocks : ℕ) (present : Bool) (setup correction key check : ℕ) → Order
-fileOrder width batch blocks present setup correction key check =
-    headOrder width batch blocks ++ ((bodiesRight width blocks present setup correction key check, Body) ∷ [])
+-- then 8 if a body's length isn't the one its kind has for that head; last 9 unless the number in the key's body is usable
+abbrev pub fileOrder : (width batch blocks : ℕ) (present : Bool) (setup correction key check keyNumber : ℕ) → Order
+fileOrder width batch blocks present setup correction key check keyNumber =
+    headOrder width batch blocks
+    ++ ((bodiesRight width blocks present setup correction key check, Body) ∷ (keyUsable keyNumber, Key) ∷ [])

@@ -1,7 +1,7 @@
-// The rules of a session, in numbers only: its record, how a step changes it, and which batch numbers and blocks are allowed. The order in
-// which each step refuses is a definition here; the crate `orders` gives the answers.
+// The rules of a session, in numbers only: its record, how a step changes it, and which batch numbers, blocks and keys are allowed. The order
+// in which each step refuses is a definition here; the crate `orders` gives the answers.
 ghost use mathlib.Core.Path.{_≡_};
-ghost use Rattle.rules.specs.Orders.{newRecord, withBatch, withoutBatch, closed, blocksAllowed, batchFollows};
+ghost use Rattle.rules.specs.Orders.{newRecord, withBatch, withoutBatch, closed, blocksAllowed, batchFollows, keyUsable};
 
 // The record of a session: its width, the blocks of the open batch, the last batch number (0 for none), and the stage (0 ready, 1 open,
 // 2 closed). It may hold any numbers. In this order C lays it out without a hole before its end.
@@ -87,4 +87,11 @@ pub fn batch_follows(last: u64, batch: u64) -> bool
         return false;
     }
     last < batch
+}
+
+// Whether a key is usable: with 0 the fold sees only the last word, and with 1 it can't tell one word from another.
+pub fn key_usable(key: u64) -> bool
+    ensures { λ r. ⌜ r ≡ keyUsable key ⌝ }
+{
+    2 <= key
 }

@@ -1,4 +1,4 @@
--- What the steps of a session promise. Paper 01, 'Steps and their turning away'. Assumes nothing.
+-- What the steps of a session promise. Paper 01, 'Steps and their turning away'; paper 02, note 5. Assumes nothing.
 use mathlib.Core.Path.{_≡_}
 use Prim.Native.Nat.{ℕ}
 use lib.ListN.{length}
@@ -42,12 +42,12 @@ pub record SenderCorrect (r : Record) (siblings delta : Range) (batch blocks : �
       ≡ whenDone answer (senderTable (treesOf (r .width)) (r .width) (streamByte batch) (columnLength blocks) siblings delta
       (treeCorrection (columnLength blocks) correction)) table
 
--- ---- the two that end it
+-- ---- the two that end it: they refuse a key that isn't usable, and then, too, record and ranges are as before
 
 -- all that the receiver's answer promises
 pub record ReceiverAnswer (r : Record) (key : ℕ) (choices table message pads : Range)
     (answer : Answer) (r′ : Record) (message′ pads′ : Range) : Type 0 where
-  pub answered : answer ≡ firstOf (answerOrder r (length choices) (length table) (length message) (length pads))
+  pub answered : answer ≡ firstOf (answerOrder r key (length choices) (length table) (length message) (length pads))
   pub recorded : r′ ≡ whenDone answer (withoutBatch r) r
   pub told : message′ ≡ whenDone answer (checkMessage columns (columnLength (r .blocks)) key choices table) message
   pub padded : pads′ ≡ whenDone answer (receiverPads columns (r .blocks) (r .last) table) pads
@@ -56,7 +56,7 @@ pub record ReceiverAnswer (r : Record) (key : ℕ) (choices table message pads :
 pub record SenderVerify (r : Record) (key : ℕ) (table delta message pads : Range)
     (answer : Answer) (r′ : Record) (pads′ : Range) : Type 0 where
   pub answered : answer
-      ≡ firstOf (verifyOrder r (length table) (length delta) (length message) (length pads)
+      ≡ firstOf (verifyOrder r key (length table) (length delta) (length message) (length pads)
       (accepts columns (columnLength (r .blocks)) key table delta message))
   pub recorded : r′ ≡ whenDone answer (withoutBatch r) (whenFailed answer (closed r) r)
   pub padded : pads′ ≡ whenDone answer (senderPads columns (r .blocks) (r .last) table delta) pads

@@ -124,7 +124,14 @@ pub fn receiver_answer(
 ) -> Stepped
     ensures { λ x. ⌜ ReceiverAnswer r key (now (choices .entry)) (now (table .entry)) (now (message .entry)) (now (pads .entry)) (x .answer) (x .record) (now (message .exit)) (now (pads .exit)) ⌝ }
 {
-    let answer = orders::receiver_answer(r, choices.len(), table.len(), message.len(), pads.len());
+    let answer = orders::receiver_answer(
+        r,
+        key,
+        choices.len(),
+        table.len(),
+        message.len(),
+        pads.len(),
+    );
     if answer::is_done(answer) {
         consistency::write_message(sizes::COLUMNS, key, choices, table, message);
         pads::receiver_pads(r.blocks as usize, r.last, table, pads);
@@ -146,7 +153,7 @@ pub fn sender_verify(
 ) -> Stepped
     ensures { λ x. ⌜ SenderVerify r key (now (table .entry)) (now (delta .entry)) (now (message .entry)) (now (pads .entry)) (x .answer) (x .record) (now (pads .exit)) ⌝ }
 {
-    let answer = orders::sender_verify(r, table.len(), delta.len(), message.len(), pads.len());
+    let answer = orders::sender_verify(r, key, table.len(), delta.len(), message.len(), pads.len());
     if answer::is_done(answer) {
         let len = sizes::column_length(r.blocks);
         if consistency::accepts(sizes::COLUMNS, len, key, table, delta, message) {

@@ -67,7 +67,7 @@ cheat-passes s x guess cheat delta run unrefused = by (demand3 s .verdict delta 
           ∙ sym (erred c lt))),
     )
 
--- there is such a run of every guess and every delta, at every width, batch, blocks and key that are allowed: so some runs with errors pass, and some
+-- there is such a run of every guess and every delta, at every width, batch, blocks and usable key that are allowed: so some runs with errors pass, and some
 -- close
 pub record CheatRun (width batch blocks key : ℕ) (roots delta guess : Range) (x : ℕ) : Type 0 where
   pub sent : Sent
@@ -78,18 +78,18 @@ pub record CheatRun (width batch blocks key : ℕ) (roots delta guess : Range) (
   pub unrefused : Unrefused (run .answer)
 
 pub a-cheat : (width batch blocks key : ℕ) (basePads roots delta guess : Range) (x : ℕ) (r : Record)
-    → widthAllowed width ≡ true → 1 ≤ blocks → blocks ≤ 15 → key < 2 ^ 64
+    → widthAllowed width ≡ true → 1 ≤ blocks → blocks ≤ 15 → 2 ≤ key → key < 2 ^ 64
     → length basePads ≡ receiverBasePadsLength → length roots ≡ rootsLength width → length delta ≡ deltaLength
     → Ready r width → r .last < batch → x < 2 ^ 64 → x ≢ 0
     → CheatRun width batch blocks key roots delta guess x
-a-cheat width batch blocks key basePads roots delta guess x r allowed low high key-fits pads-long roots-long delta-long ready next small some =
+a-cheat width batch blocks key basePads roots delta guess x r allowed low high usable key-fits pads-long roots-long delta-long ready next small some =
     record {
       sent = sent;
       of-numbers = (refl, refl, refl, refl);
       of-roots = refl;
       cheat = record { key-fits = key-fits; small = small; some = some; corrected = refl; told = refl };
       run = a-run sent delta basePads r all-allowed (withBatch r batch blocks) (room (senderPadsLength blocks)) .run;
-      unrefused = an-unrefused-run sent delta basePads r all-allowed (erring-length honest x (λ c. bitAt guess c * x));
+      unrefused = an-unrefused-run sent delta basePads r all-allowed usable (erring-length honest x (λ c. bitAt guess c * x));
     }
   where
     honest : Sent

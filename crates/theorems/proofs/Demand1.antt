@@ -43,22 +43,22 @@ demand1 (sender-correct {answer = a} p) =
     plain (1 ∷ 2 ∷ 3 ∷ 4 ∷ 5 ∷ []) _ a _ _ (p .answered)
     (λ q i. session ((p .recorded ∙ old-when a _ _ q) i) ((p .filled ∙ old-when a _ _ q) i ∷ [])) refl refl refl
 demand1 (receiver-answer {answer = a} p) =
-    plain (1 ∷ 2 ∷ 3 ∷ 4 ∷ 5 ∷ []) _ a _ _ (p .answered)
+    plain (1 ∷ 2 ∷ 3 ∷ 4 ∷ 9 ∷ 5 ∷ []) _ a _ _ (p .answered)
     (λ q i. session ((p .recorded ∙ old-when a _ _ q) i) ((p .told ∙ old-when a _ _ q) i ∷ (p .padded ∙ old-when a _ _ q) i ∷ [])) refl refl refl
 demand1 (sender-verify {r} {pads = pads} {answer = a} p) = record {
-  ends = subst (Among (0 ∷ 1 ∷ 2 ∷ 3 ∷ 4 ∷ 5 ∷ 6 ∷ [])) (sym (p .answered)) (first-among (1 ∷ 2 ∷ 3 ∷ 4 ∷ 5 ∷ 6 ∷ []) _ refl);
+  ends = subst (Among (0 ∷ 1 ∷ 2 ∷ 3 ∷ 4 ∷ 9 ∷ 5 ∷ 6 ∷ [])) (sym (p .answered)) (first-among (1 ∷ 2 ∷ 3 ∷ 4 ∷ 9 ∷ 5 ∷ 6 ∷ []) _ refl);
   kept = λ ne.
       let q = not-done _ a refl (p .answered) ne in
       (λ i. session ((p .recorded ∙ old-when a _ _ q) i) ((p .padded ∙ old-when a _ _ q) i ∷ []))
       ∙ cond-ap (λ (x : Record). session x (pads ∷ [])) (eqb (number a) (number Check)) (closed r) r;
 }
-demand1 (read-file {file = file} {answer = a} p) = plain (7 ∷ 8 ∷ 1 ∷ 3 ∷ 4 ∷ 8 ∷ []) (readOrder file) a _ _ (p .answered) (λ q. refl) refl refl refl
+demand1 (read-file {file = file} {answer = a} p) = plain (7 ∷ 8 ∷ 1 ∷ 3 ∷ 4 ∷ 8 ∷ 9 ∷ []) (readOrder file) a _ _ (p .answered) (λ q. refl) refl refl refl
 demand1 (write-file {answer = a} p) =
-    plain (1 ∷ 3 ∷ 4 ∷ 8 ∷ 5 ∷ []) _ a _ _ (p .answered) (λ q. ap (λ (m : List ℕ). ranges (m ∷ [])) (p .written ∙ old-when a _ _ q)) refl refl refl
+    plain (1 ∷ 3 ∷ 4 ∷ 8 ∷ 9 ∷ 5 ∷ []) _ a _ _ (p .answered) (λ q. ap (λ (m : List ℕ). ranges (m ∷ [])) (p .written ∙ old-when a _ _ q)) refl refl refl
 
 -- what C is given back of a file is told by such a call
 pub read-from-c : (file : Range) (x : FileRead) → x ≡ fileRead file
-    → Numbered (λ answer. Call (7 ∷ 8 ∷ 1 ∷ 3 ∷ 4 ∷ 8 ∷ []) answer (ranges []) (ranges [])) (x .answer)
+    → Numbered (λ answer. Call (7 ∷ 8 ∷ 1 ∷ 3 ∷ 4 ∷ 8 ∷ 9 ∷ []) answer (ranges []) (ranges [])) (x .answer)
 read-from-c file x e = record {
   answer = readAnswer file;
   kept = read-file {file = file} {head = headFound file} {places = placesFound file} (record { answered = refl; headed = refl; placed = refl });

@@ -1,4 +1,4 @@
--- Demand 2 holds: of two honest sides every step is done, and their rows and pads agree. Assumes nothing.
+-- Demand 2 holds: of two honest sides every step is done where the key is usable, and their rows and pads agree. Assumes nothing.
 use mathlib.Core.Path.{_≡_, sym, ap, ap₂, _∙_, subst}
 use mathlib.Core.Bool.{Bool, true, false, cond}
 use mathlib.Core.Logic.{_⊎_, inl, inr}
@@ -33,10 +33,10 @@ use Rattle.consistency.specs.Message.{checkMessage, accepts}
 use Rattle.consistency.proofs.MessageLaws.{message-length}
 use Rattle.rules.specs.declared.Record.{Record}
 use Rattle.rules.specs.Orders.{stageReady, stageOpen, withBatch, withoutBatch, has, batchOrder, endOrder, startOrder, correctOrder, beforeCheck}
-use Rattle.rules.proofs.Allowed.{blocks-allowed, batch-follows}
+use Rattle.rules.proofs.Allowed.{blocks-allowed, batch-follows, key-usable}
 use Rattle.session.specs.Steps.{SenderCorrect, SenderVerify}
 use Rattle.errors.specs.Errors.{Sent}
-use Rattle.theorems.specs.Demand2.{Ready, HonestBatch, ended, Demand2}
+use Rattle.theorems.specs.Demand2.{Ready, HonestBatch, ended, Ends, Demand2}
 use Rattle.theorems.specs.Demand3.{Run, Unrefused, Accepts, Closes}
 use Rattle.theorems.proofs.Setup.{siblings-are, both-done}
 use Rattle.theorems.proofs.Batch.{honest-rows}
@@ -105,15 +105,15 @@ open-batch : (r : Record) (width batch blocks : ℕ) → Ready r width → width
 open-batch r width batch blocks ready allowed next low high =
     (ap widthAllowed (ready .wide) ∙ allowed, (eq-eqb _ _ (ready .ready), (batch-follows (r .last) batch next, (blocks-allowed blocks low high, tt))))
 
-end-batch : (r : Record) (width batch blocks : ℕ) → Opened r width batch blocks → widthAllowed width ≡ true → 0 < batch → 1 ≤ blocks → blocks ≤ 15
-    → AllHold (endOrder r)
-end-batch r width batch blocks opened allowed some low high = (
+end-batch : (r : Record) (key width batch blocks : ℕ) → Opened r width batch blocks → 2 ≤ key → widthAllowed width ≡ true → 0 < batch → 1 ≤ blocks → blocks ≤ 15
+    → AllHold (endOrder r key)
+end-batch r key width batch blocks opened usable allowed some low high = (
   ap widthAllowed (opened .wide) ∙ allowed,
   (
     eq-eqb _ _ (opened .open-now),
     (
       lt-ltb 0 (r .last) (omega (arith, opened .last-is)),
-      (blocks-allowed (r .blocks) (omega (arith, opened .blocks-are)) (omega (arith, opened .blocks-are)), tt),
+      (blocks-allowed (r .blocks) (omega (arith, opened .blocks-are)) (omega (arith, opened .blocks-are)), (key-usable key usable, tt)),
     ),
   ),
 )
@@ -142,21 +142,21 @@ correct-allowed q width batch blocks siblings delta correction table ready allow
     (four-named (batchOrder q batch blocks) siblings siblingsLength delta deltaLength correction (correctionLength (q .width) blocks) table (tableLength blocks)
     (open-batch q width batch blocks ready allowed next low high) s d (c ∙ ap (λ (w : ℕ). correctionLength w blocks) (sym (ready .wide))) t)
 
--- and nothing before the verify's check is refused where an open batch may be ended and the lengths are those named
-pub verify-allowed : (q : Record) (width batch blocks table delta message pads : ℕ) → Opened q width batch blocks → widthAllowed width ≡ true → 0 < batch
+-- and nothing before the verify's check is refused where an open batch may be ended, the key is usable and the lengths are those named
+pub verify-allowed : (q : Record) (key width batch blocks table delta message pads : ℕ) → Opened q width batch blocks → 2 ≤ key → widthAllowed width ≡ true → 0 < batch
     → 1 ≤ blocks → blocks ≤ 15 → table ≡ tableLength blocks → delta ≡ deltaLength → message ≡ checkMessageLength → pads ≡ senderPadsLength blocks
-    → AllHold (beforeCheck q table delta message pads)
-verify-allowed q width batch blocks table delta message pads opened allowed some low high t d m p =
+    → AllHold (beforeCheck q key table delta message pads)
+verify-allowed q key width batch blocks table delta message pads opened usable allowed some low high t d m p =
     let same : blocks ≡ q .blocks = sym (opened .blocks-are) in
-    four-named (endOrder q) table (tableLength (q .blocks)) delta deltaLength message checkMessageLength pads (senderPadsLength (q .blocks))
-    (end-batch q width batch blocks opened allowed some low high) (t ∙ ap tableLength same) d m (p ∙ ap senderPadsLength same)
+    four-named (endOrder q key) table (tableLength (q .blocks)) delta deltaLength message checkMessageLength pads (senderPadsLength (q .blocks))
+    (end-batch q key width batch blocks opened usable allowed some low high) (t ∙ ap tableLength same) d m (p ∙ ap senderPadsLength same)
 
 -- there the check decides
 pub check-decides : (q : Record) (key : ℕ) (table delta message pads pads′ : List ℕ) (answer : Answer) (q′ : Record)
     → SenderVerify q key table delta message pads answer q′ pads′
-    → AllHold (beforeCheck q (length table) (length delta) (length message) (length pads)) → Unrefused answer
+    → AllHold (beforeCheck q key (length table) (length delta) (length message) (length pads)) → Unrefused answer
 check-decides q key table delta message pads pads′ answer q′ verified hold =
-    either-way verdict (verified .answered ∙ last-decides (beforeCheck q (length table) (length delta) (length message) (length pads)) verdict Check hold)
+    either-way verdict (verified .answered ∙ last-decides (beforeCheck q key (length table) (length delta) (length message) (length pads)) verdict Check hold)
   where
     verdict : Bool
     verdict = accepts columns (columnLength (q .blocks)) key table delta message
@@ -242,82 +242,7 @@ module _ (h : HonestBatch) where
   sender-opened : Opened (h .q₁) k (h .batch) (h .blocks)
   sender-opened = opens (h .q) (h .q₁) k (h .batch) (h .blocks) (h .sender-ready) (h .sender-correct .recorded ∙ got (h .a₄) _ _ correct-done)
 
-  -- the receiver's answer
-  later : 0 < h .batch
-  later = omega (arith, h .receiver-next)
-
-  answer-done : h .a₅ ≡ Done
-  answer-done =
-      let blocks = h .r₁ .blocks in
-      let same : h .blocks ≡ h .r₁ .blocks = sym (receiver-opened .blocks-are) in
-      h .receiver-answer .answered
-      ∙ done-when _
-      (four-named (endOrder (h .r₁)) _ (columnLength blocks) _ (tableLength blocks) _ checkMessageLength _ (receiverPadsLength blocks)
-      (end-batch (h .r₁) k (h .batch) (h .blocks) receiver-opened (h .width-allowed) later (h .some-blocks) (h .few-blocks))
-      (ap length choices-is ∙ uOf-length k stream len _ ∙ ap columnLength same)
-      (ap length v-is ∙ receiverTable-length n k stream len (h .roots) ∙ ap (λ (c : ℕ). c * len) (width .columns) ∙ ap tableLength same)
-      (h .message-length) (h .pads-length ∙ ap receiverPadsLength same))
-
-  message-told : h .message′ ≡ checkMessage columns len (h .key) (h .choices′) (h .v′)
-  message-told =
-      h .receiver-answer .told ∙ got (h .a₅) _ _ answer-done
-      ∙ ap (λ (n : ℕ). checkMessage columns (columnLength n) (h .key) (h .choices′) (h .v′)) (receiver-opened .blocks-are)
-
-  message-is : h .message′ ≡ checkMessage columns len (h .key) (choicesOf k stream len (h .roots)) (receiverTable n k stream len (h .roots))
-  message-is =
-      message-told
-      ∙ ap₂ (checkMessage columns len (h .key)) choices-is v-is
-
-  pads-given : h .pads′ ≡ receiverPads columns (h .blocks) (h .batch) (h .v′)
-  pads-given =
-      h .receiver-answer .padded ∙ got (h .a₅) _ _ answer-done
-      ∙ ap₂ (λ (blocks batch : ℕ). receiverPads columns blocks batch (h .v′)) (receiver-opened .blocks-are) (receiver-opened .last-is)
-
-  -- the sender's verify: what it was sent is honest, so by demand 3 it accepts
-  abbrev sent : Sent
-  sent = record { roots = h .roots; width = k; batch = h .batch; blocks = h .blocks; correction = h .correction′; message = h .message′; key = h .key }
-
-  unrefused : Unrefused (h .a₆)
-  unrefused =
-      check-decides (h .q₁) (h .key) (h .w′) (h .delta) (h .message′) (h .bothPads) (h .bothPads′) (h .a₆) (h .q₂) (h .sender-verify)
-      (verify-allowed (h .q₁) k (h .batch) (h .blocks) _ _ _ _ sender-opened (h .width-allowed) later (h .some-blocks) (h .few-blocks)
-      (ap length w-is ∙ senderTable-length n k stream len _ (h .delta) _ ∙ ap (λ (c : ℕ). c * len) (width .columns)) (h .delta-length)
-      (ap length message-is ∙ message-length columns len (h .key) _ _) (h .both-pads-length))
-
-  abbrev run : Run sent (h .delta)
-  run = record {
-    basePads = h .basePads;
-    setupMessage = h .setupMessage;
-    setupMessage′ = h .setupMessage′;
-    siblings = h .siblings;
-    siblings′ = h .siblings′;
-    r = h .q;
-    r′ = h .q₁;
-    table = h .w;
-    table′ = h .w′;
-    q = h .q₁;
-    q′ = h .q₂;
-    pads = h .bothPads;
-    pads′ = h .bothPads′;
-    answer = h .a₆;
-    receiver-setup = subst (λ (a : Answer). ReceiverSetup k (h .roots) (h .basePads) (h .setupMessage) a (h .setupMessage′)) (setups .0) (h .receiver-setup);
-    sender-setup = subst (λ (a : Answer). SenderSetup k (h .delta) (senderBasePads n k (h .delta) (h .basePads)) (h .setupMessage′) (h .siblings) a (h .siblings′)) (setups .1) (h .sender-setup);
-    same-width = h .sender-ready .wide;
-    sender-correct = subst (λ (a : Answer). SenderCorrect (h .q) (h .siblings′) (h .delta) (h .batch) (h .blocks) (h .correction′) (h .w) a (h .q₁) (h .w′)) correct-done (h .sender-correct);
-    sender-verify = h .sender-verify;
-    bytes = λ i. rw (ap (λ (l : List ℕ). getD l i 0) correction-is) (correctionOf-bytes stream (stream-lt (h .batch)) n k len (h .roots) i);
-  }
-
-  accepted : Accepts sent (h .delta) run
-  accepted = by-verdict (demand3 sent .verdict (h .delta) run unrefused)
-    where
-      by-verdict : Accepts sent (h .delta) run ⊎ Closes sent (h .delta) run → Accepts sent (h .delta) run
-      by-verdict (inl x) = x
-      by-verdict (inr x) = absurd (x .differ (all-meet sent (h .key-fits) correction-is message-is (h .delta)))
-
-  both-pads-given : h .bothPads′ ≡ senderPads columns (h .blocks) (h .batch) (h .w′) (h .delta)
-  both-pads-given = accepted .padded ∙ ap (λ (batch : ℕ). senderPads columns (h .blocks) batch (h .w′) (h .delta)) (sender-opened .last-is)
-
+  -- each row of the sender
   row-relation : (j : ℕ) → rowOf columns len (h .w′) j ≡ xorList (rowOf columns len (h .v′) j) (scale (bitAt (h .choices′) j) (h .delta))
   row-relation j =
       let u : List ℕ = choicesOf k stream len (h .roots) in
@@ -328,33 +253,116 @@ module _ (h : HonestBatch) where
       (honest-rows n k stream len (h .delta) (h .roots) (h .delta-bytes) j)
       ∙ ap₂ (λ (t u : List ℕ). xorList (rowOf columns len t j) (scale (bitAt u j) (h .delta))) (sym v-is) (sym choices-is)
 
-  agree : (j : ℕ) → j < 64 * h .blocks → part (32 * j) 32 (h .pads′) ≡ part (64 * j + 32 * bitAt (h .choices′) j) 32 (h .bothPads′)
-  agree j lt =
-      let x : ℕ = bitAt (h .choices′) j in
-      let d : List ℕ = scale x (h .delta) in
-      ap (part (32 * j) 32) pads-given
-      ∙ own-pad (h .blocks) (h .batch) j (h .v′) lt
-      ∙ ap (padOf (h .batch) j) (sym (ap (λ (r : List ℕ). xorList r d) (row-relation j) ∙ xorEach-cancel (rowOf columns len (h .v′) j) (λ i. getD d i 0)))
-      ∙ sym (given-pad (h .blocks) (h .batch) j x (h .w′) (h .delta) lt (bit-lt _ _))
-      ∙ ap (part (64 * j + 32 * x) 32) (sym both-pads-given)
+  later : 0 < h .batch
+  later = omega (arith, h .receiver-next)
+
+  module _ (usable : 2 ≤ h .key) where
+    -- the receiver's answer, to a usable key
+    answer-done : h .a₅ ≡ Done
+    answer-done =
+        let blocks = h .r₁ .blocks in
+        let same : h .blocks ≡ h .r₁ .blocks = sym (receiver-opened .blocks-are) in
+        h .receiver-answer .answered
+        ∙ done-when _
+        (four-named (endOrder (h .r₁) (h .key)) _ (columnLength blocks) _ (tableLength blocks) _ checkMessageLength _ (receiverPadsLength blocks)
+        (end-batch (h .r₁) (h .key) k (h .batch) (h .blocks) receiver-opened usable (h .width-allowed) later (h .some-blocks) (h .few-blocks))
+        (ap length choices-is ∙ uOf-length k stream len _ ∙ ap columnLength same)
+        (ap length v-is ∙ receiverTable-length n k stream len (h .roots) ∙ ap (λ (c : ℕ). c * len) (width .columns) ∙ ap tableLength same)
+        (h .message-length) (h .pads-length ∙ ap receiverPadsLength same))
+
+    message-told : h .message′ ≡ checkMessage columns len (h .key) (h .choices′) (h .v′)
+    message-told =
+        h .receiver-answer .told ∙ got (h .a₅) _ _ answer-done
+        ∙ ap (λ (n : ℕ). checkMessage columns (columnLength n) (h .key) (h .choices′) (h .v′)) (receiver-opened .blocks-are)
+
+    message-is : h .message′ ≡ checkMessage columns len (h .key) (choicesOf k stream len (h .roots)) (receiverTable n k stream len (h .roots))
+    message-is =
+        message-told
+        ∙ ap₂ (checkMessage columns len (h .key)) choices-is v-is
+
+    pads-given : h .pads′ ≡ receiverPads columns (h .blocks) (h .batch) (h .v′)
+    pads-given =
+        h .receiver-answer .padded ∙ got (h .a₅) _ _ answer-done
+        ∙ ap₂ (λ (blocks batch : ℕ). receiverPads columns blocks batch (h .v′)) (receiver-opened .blocks-are) (receiver-opened .last-is)
+
+    -- the sender's verify: what it was sent is honest, so by demand 3 it accepts
+    abbrev sent : Sent
+    sent = record { roots = h .roots; width = k; batch = h .batch; blocks = h .blocks; correction = h .correction′; message = h .message′; key = h .key }
+
+    unrefused : Unrefused (h .a₆)
+    unrefused =
+        check-decides (h .q₁) (h .key) (h .w′) (h .delta) (h .message′) (h .bothPads) (h .bothPads′) (h .a₆) (h .q₂) (h .sender-verify)
+        (verify-allowed (h .q₁) (h .key) k (h .batch) (h .blocks) _ _ _ _ sender-opened usable (h .width-allowed) later (h .some-blocks) (h .few-blocks)
+        (ap length w-is ∙ senderTable-length n k stream len _ (h .delta) _ ∙ ap (λ (c : ℕ). c * len) (width .columns)) (h .delta-length)
+        (ap length message-is ∙ message-length columns len (h .key) _ _) (h .both-pads-length))
+
+    abbrev run : Run sent (h .delta)
+    run = record {
+      basePads = h .basePads;
+      setupMessage = h .setupMessage;
+      setupMessage′ = h .setupMessage′;
+      siblings = h .siblings;
+      siblings′ = h .siblings′;
+      r = h .q;
+      r′ = h .q₁;
+      table = h .w;
+      table′ = h .w′;
+      q = h .q₁;
+      q′ = h .q₂;
+      pads = h .bothPads;
+      pads′ = h .bothPads′;
+      answer = h .a₆;
+      receiver-setup = subst (λ (a : Answer). ReceiverSetup k (h .roots) (h .basePads) (h .setupMessage) a (h .setupMessage′)) (setups .0) (h .receiver-setup);
+      sender-setup = subst (λ (a : Answer). SenderSetup k (h .delta) (senderBasePads n k (h .delta) (h .basePads)) (h .setupMessage′) (h .siblings) a (h .siblings′)) (setups .1) (h .sender-setup);
+      same-width = h .sender-ready .wide;
+      sender-correct = subst (λ (a : Answer). SenderCorrect (h .q) (h .siblings′) (h .delta) (h .batch) (h .blocks) (h .correction′) (h .w) a (h .q₁) (h .w′)) correct-done (h .sender-correct);
+      sender-verify = h .sender-verify;
+      bytes = λ i. rw (ap (λ (l : List ℕ). getD l i 0) correction-is) (correctionOf-bytes stream (stream-lt (h .batch)) n k len (h .roots) i);
+    }
+
+    accepted : Accepts sent (h .delta) run
+    accepted = by-verdict (demand3 sent .verdict (h .delta) run unrefused)
+      where
+        by-verdict : Accepts sent (h .delta) run ⊎ Closes sent (h .delta) run → Accepts sent (h .delta) run
+        by-verdict (inl x) = x
+        by-verdict (inr x) = absurd (x .differ (all-meet sent (h .key-fits) correction-is message-is (h .delta)))
+
+    both-pads-given : h .bothPads′ ≡ senderPads columns (h .blocks) (h .batch) (h .w′) (h .delta)
+    both-pads-given = accepted .padded ∙ ap (λ (batch : ℕ). senderPads columns (h .blocks) batch (h .w′) (h .delta)) (sender-opened .last-is)
+
+    agree : (j : ℕ) → j < 64 * h .blocks → part (32 * j) 32 (h .pads′) ≡ part (64 * j + 32 * bitAt (h .choices′) j) 32 (h .bothPads′)
+    agree j lt =
+        let x : ℕ = bitAt (h .choices′) j in
+        let d : List ℕ = scale x (h .delta) in
+        ap (part (32 * j) 32) pads-given
+        ∙ own-pad (h .blocks) (h .batch) j (h .v′) lt
+        ∙ ap (padOf (h .batch) j) (sym (ap (λ (r : List ℕ). xorList r d) (row-relation j) ∙ xorEach-cancel (rowOf columns len (h .v′) j) (λ i. getD d i 0)))
+        ∙ sym (given-pad (h .blocks) (h .batch) j x (h .w′) (h .delta) lt (bit-lt _ _))
+        ∙ ap (part (64 * j + 32 * x) 32) (sym both-pads-given)
+
+ends : (h : HonestBatch) → 2 ≤ h .key → Ends h
+ends h usable = record {
+  ends-done = (answer-done h usable, accepted h usable .answered);
+  sessions-ready = (
+    h .receiver-answer .recorded ∙ got (h .a₅) _ _ (answer-done h usable) ∙ ended-is (h .r₁) (h .width) (h .batch) (h .blocks) (receiver-opened h),
+    accepted h usable .recorded ∙ ended-is (h .q₁) (h .width) (h .batch) (h .blocks) (sender-opened h),
+  );
+  message-is = message-told h usable;
+  pads-are = pads-given h usable;
+  both-pads-are = both-pads-given h usable;
+  pads-agree = agree h usable;
+}
 
 pub demand2 : (h : HonestBatch) → Demand2 h
 demand2 h = record {
   setups-done = setups h;
-  batch-done = (start-done h, correct-done h, answer-done h, accepted h .answered);
-  sessions-ready = (
-    h .receiver-answer .recorded ∙ got (h .a₅) _ _ (answer-done h) ∙ ended-is (h .r₁) (h .width) (h .batch) (h .blocks) (receiver-opened h),
-    accepted h .recorded ∙ ended-is (h .q₁) (h .width) (h .batch) (h .blocks) (sender-opened h),
-  );
+  starts-done = (start-done h, correct-done h);
   setup-message-is = setup-message h;
   siblings-are = siblings-is h;
   choices-are = choices-is h;
   v-is = v-is h;
   correction-is = correction-is h;
   w-is = w-filled h;
-  message-is = message-told h;
-  pads-are = pads-given h;
-  both-pads-are = both-pads-given h;
   rows = λ j lt. row-relation h j;
-  pads-agree = agree h;
+  ends = ends h;
 }

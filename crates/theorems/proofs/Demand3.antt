@@ -29,7 +29,7 @@ use Rattle.consistency.specs.Message.{sidesEqual, accepts}
 use Rattle.words.proofs.Lists.{every-of, every-is}
 use Rattle.pads.specs.Pads.{senderPads}
 use Rattle.rules.specs.Orders.{withoutBatch, closed, beforeCheck}
-use Rattle.rules.proofs.Fits.{correct-fits, verify-fits}
+use Rattle.rules.proofs.Fits.{correct-fits, VerifyTells, verify-fits}
 use Rattle.errors.specs.Errors.{Sent, lengthOf, columnError, foldedError}
 use Rattle.theorems.specs.Demand3.{Run, Unrefused, SidesEqual, ErrorsMeet, EveryColumn, TreePasses, Accepts, Closes, Demand3}
 use Rattle.theorems.proofs.Setup.{siblings-are}
@@ -112,18 +112,24 @@ module _ (s : Sent) (delta : List ℕ) (run : Run s delta) where
 
   -- where none of the conditions before the check was answered, they hold; so the check decides
   abbrev asked : Order
-  asked = beforeCheck (run .q) (length (run .table′)) (length delta) (length (s .message)) (length (run .pads))
+  asked = beforeCheck (run .q) (s .key) (length (run .table′)) (length delta) (length (s .message)) (length (run .pads))
 
   abbrev verdict : Bool
   verdict = accepts columns (columnLength (run .q .blocks)) (s .key) (run .table′) delta (s .message)
 
-  decides : Unrefused (run .answer) → Accepts s delta run ⊎ Closes s delta run
-  decides unrefused =
-      let hold : AllHold asked =
-      reached refusal asked ((verdict, Check) ∷ []) refl (ap refusal (sym (run .sender-verify .answered)) ∙ unrefused-is (run .answer) unrefused) in
-      let same = same-blocks (run .q .blocks) (verify-fits (run .q) (length (run .table′)) (length delta) (length (s .message)) (length (run .pads)) hold .table-long) in
-      decided verdict (ap (λ (blocks : ℕ). accepts columns (columnLength blocks) (s .key) (run .table′) delta (s .message)) (sym same))
-      (run .sender-verify .answered ∙ last-decides asked verdict Check hold) same
+  module _ (unrefused : Unrefused (run .answer)) where
+    hold : AllHold asked
+    hold =
+        reached refusal asked ((verdict, Check) ∷ []) refl (ap refusal (sym (run .sender-verify .answered)) ∙ unrefused-is (run .answer) unrefused)
+
+    tells : VerifyTells (run .q) (s .key) (length (run .table′)) (length delta) (length (s .message)) (length (run .pads))
+    tells = verify-fits (run .q) (s .key) (length (run .table′)) (length delta) (length (s .message)) (length (run .pads)) hold
+
+    decides : Accepts s delta run ⊎ Closes s delta run
+    decides =
+        let same = same-blocks (run .q .blocks) (tells .table-long) in
+        decided verdict (ap (λ (blocks : ℕ). accepts columns (columnLength blocks) (s .key) (run .table′) delta (s .message)) (sym same))
+        (run .sender-verify .answered ∙ last-decides asked verdict Check hold) same
 
   -- in each column of a tree that passes, delta's bit times the folded error is the error in the sent fold
   tree-meets : (i : ℕ) → i < treesOf k → TreePasses s delta (run .table′) i → (b : ℕ) → b < k
@@ -145,6 +151,7 @@ pub demand3 : (s : Sent) → Demand3 s
 demand3 s = record {
   columns-law = each-column s;
   verdict = decides s;
+  judged-usable = λ delta run unrefused. tells s delta run unrefused .usable;
   at-most-one = λ delta delta₂ run run₂ i h ne passes passes₂.
       ofBits-same (s .width) (λ b. bitAt delta (i * s .width + b)) (λ b. bitAt delta₂ (i * s .width + b))
       (λ b lt.

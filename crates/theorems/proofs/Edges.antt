@@ -8,29 +8,31 @@ use native.Mathlib.Omega.{arith}
 use lib.Dec.{eqb, ltb}
 use lib.ListN.{length, replicate}
 use borrow.Author.Tests.{eq-eqb, ne-eqb, lt-ltb, le-ltb}
-use Rattle.words.specs.Bytes.{Range, part}
+use Rattle.words.specs.Bytes.{Range, littleEndian, part}
 use Rattle.words.specs.Xor.{xorList}
 use Rattle.words.proofs.Lists.{scale-zero, scale-one}
 use Rattle.sizes.specs.Sizes.{widthAllowed, columns, columnLength, correctionLength, fileLength}
 use Rattle.sizes.specs.Sizes.{deltaLength, rootsLength, siblingsLength, tableLength}
 use Rattle.answer.specs.declared.Answer.{Answer}
-use Rattle.answer.specs.declared.Answer.the-variants.{Done, Width, Stage, Batch, Blocks, Check, Body}
+use Rattle.answer.specs.declared.Answer.the-variants.{Done, Width, Stage, Batch, Blocks, Check, Body, Key}
 use Rattle.answer.specs.Answer.{isDone, Order, firstOf}
-use Rattle.answer.proofs.Order.{refused-at, reached}
+use Rattle.answer.proofs.Order.{AllHold, refused-at, reached}
 use Rattle.rows.specs.Row.{rowOf}
 use Rattle.pads.specs.Pads.{padOf, senderPads}
 use Rattle.rules.specs.declared.Record.{Record}
-use Rattle.rules.specs.Orders.{stageReady, stageOpen, blocksAllowed, batchFollows, receiverSetupOrder, senderSetupOrder, sessionOrder, batchOrder, endOrder}
-use Rattle.rules.specs.Orders.{startOrder, correctOrder, answerOrder, beforeCheck, verifyOrder, headOrder, headRight}
+use Rattle.rules.specs.Orders.{stageReady, stageOpen, has, blocksAllowed, batchFollows, receiverSetupOrder, senderSetupOrder, sessionOrder, batchOrder, endOrder}
+use Rattle.rules.specs.Orders.{startOrder, correctOrder, answerOrder, beforeCheck, verifyOrder, headOrder, headRight, bodiesRight}
 use Rattle.rules.proofs.Allowed.{batch-follows}
+use Rattle.rules.proofs.Keys.{blocks-before-key, body-before-key, file-key-told}
 use Rattle.rules.proofs.Fits.{start-fits, correct-fits, answer-fits, verify-fits, setup-either}
 use Rattle.setup.proofs.Answers.{receiver-fits, sender-fits}
 use Rattle.batchfile.specs.declared.FileHead.{FileHead}
-use Rattle.batchfile.specs.File.{contentsRight, bodyOf, headOf, readAnswer, Taken}
+use Rattle.batchfile.specs.File.{countOf, contentsRight, present, bodyOf, headOf, readAnswer, Taken}
 use Rattle.batchfile.proofs.Reading.{head-next, values-next, head-cases}
 use Rattle.batchfile.proofs.Taken.{taken-tells, setup-long, longest}
-use Rattle.batchfile.specs.Laid.{Bodies}
-use Rattle.filewriter.specs.Write.{writeAnswer}
+use Rattle.batchfile.specs.Laid.{Bodies, bodiesOf, hasSetup}
+use Rattle.batchfile.proofs.Batch.{valuesFor}
+use Rattle.filewriter.specs.Write.{lengthOf, lengthsRight, writeAnswer}
 use Rattle.filewriter.proofs.Done.{write-tells}
 use Rattle.theorems.specs.Demand2.{Ready}
 use Rattle.theorems.proofs.Demand2.{given-pad, start-allowed, correct-allowed}
@@ -51,18 +53,18 @@ sender-setup-sizes width delta pads message siblings done =
     (fits .1, fits .2, fits .3, fits .4)
 
 -- both sides' ends of a batch of P blocks: the check message 1,032, the pads 2,048 × P and 4,096 × P
-pub answer-sizes : (r : Record) (choices table message pads : ℕ) → firstOf (answerOrder r choices table message pads) ≡ Done
+pub answer-sizes : (r : Record) (key choices table message pads : ℕ) → firstOf (answerOrder r key choices table message pads) ≡ Done
     → (message ≡ 1032) × (pads ≡ 2048 * r .blocks)
-answer-sizes r choices table message pads done =
-    let told = answer-fits r choices table message pads (ap isDone done) in
+answer-sizes r key choices table message pads done =
+    let told = answer-fits r key choices table message pads (ap isDone done) in
     (told .message-long, omega (arith, told .pads-long))
 
-pub verify-sizes : (r : Record) (table delta message pads : ℕ) (accepted : Bool) → firstOf (verifyOrder r table delta message pads accepted) ≡ Done
+pub verify-sizes : (r : Record) (key table delta message pads : ℕ) (accepted : Bool) → firstOf (verifyOrder r key table delta message pads accepted) ≡ Done
     → (message ≡ 1032) × (pads ≡ 4096 * r .blocks)
-verify-sizes r table delta message pads accepted done =
+verify-sizes r key table delta message pads accepted done =
     let told =
-    verify-fits r table delta message pads
-    (reached (λ a. not (isDone a)) (beforeCheck r table delta message pads) ((accepted, Check) ∷ []) refl (ap (λ (a : Answer). not (isDone a)) done)) in
+    verify-fits r key table delta message pads
+    (reached (λ a. not (isDone a)) (beforeCheck r key table delta message pads) ((accepted, Check) ∷ []) refl (ap (λ (a : Answer). not (isDone a)) done)) in
     (told .message-long, omega (arith, told .pads-long))
 
 -- 'Edges': P = 15, k = 1: table 16,384, correction 16,256, the sender's pads 61,440 bytes
@@ -79,10 +81,10 @@ module _ (r : Record) (batch : ℕ) where
       let told = correct-fits r batch 15 siblings delta correction table (ap isDone done) in
       (told .table-long, told .correction-long ∙ ap (λ (k : ℕ). correctionLength k 15) one)
 
-  pub widest-verify : (table delta message pads : ℕ) (accepted : Bool) → r .blocks ≡ 15 → firstOf (verifyOrder r table delta message pads accepted) ≡ Done
+  pub widest-verify : (key table delta message pads : ℕ) (accepted : Bool) → r .blocks ≡ 15 → firstOf (verifyOrder r key table delta message pads accepted) ≡ Done
       → pads ≡ 61440
-  widest-verify table delta message pads accepted fifteen done =
-      verify-sizes r table delta message pads accepted done .1 ∙ ap (λ (blocks : ℕ). 4096 * blocks) fifteen
+  widest-verify key table delta message pads accepted fifteen done =
+      verify-sizes r key table delta message pads accepted done .1 ∙ ap (λ (blocks : ℕ). 4096 * blocks) fifteen
 
   -- P = 1, k = 8: correction 240
   pub least-start : (roots choices table correction : ℕ) → r .width ≡ 8 → firstOf (startOrder r batch 1 roots choices table correction) ≡ Done
@@ -129,9 +131,9 @@ written-lengths = (refl, refl, refl)
 
 -- width 3, with whatever else: 1. Of a session's steps, by its record, whatever is asked after it
 pub width-three : (r : Record) (rest : Order) → r .width ≡ 3
-    → ((batch blocks : ℕ) → firstOf (batchOrder r batch blocks ++ rest) ≡ Width) × (firstOf (endOrder r ++ rest) ≡ Width)
+    → ((batch blocks : ℕ) → firstOf (batchOrder r batch blocks ++ rest) ≡ Width) × ((key : ℕ) → firstOf (endOrder r key ++ rest) ≡ Width)
 unfolding widthAllowed
-width-three r rest e = (λ batch blocks. refused-at [] _ (widthAllowed (r .width)) Width tt (ap widthAllowed e), refused-at [] _ (widthAllowed (r .width)) Width tt (ap widthAllowed e))
+width-three r rest e = (λ batch blocks. refused-at [] _ (widthAllowed (r .width)) Width tt (ap widthAllowed e), λ key. refused-at [] _ (widthAllowed (r .width)) Width tt (ap widthAllowed e))
 
 -- and of the steps that are given one: both setups, and opening
 pub width-three-given : (roots pads message delta siblings : ℕ)
@@ -171,12 +173,11 @@ past-32-bits r width blocks ready allowed e low high =
       correct-allowed r width 4294967296 blocks _ _ _ _ ready allowed next low high refl refl refl refl,
     )
 
--- P 0 or 16 at the end, on a record that holds them
-pub blocks-outside-end : (r : Record) (rest : Order) → widthAllowed (r .width) ≡ true → r .stage ≡ stageOpen → 0 < r .last
-    → (r .blocks ≡ 0) ⊎ (r .blocks ≡ 16) → firstOf (endOrder r ++ rest) ≡ Blocks
-blocks-outside-end r rest allowed isOpen some which =
-    refused-at ((widthAllowed (r .width), Width) ∷ (eqb (r .stage) stageOpen, Stage) ∷ (ltb 0 (r .last), Batch) ∷ []) rest
-    (blocksAllowed (r .blocks)) Blocks (allowed, (eq-eqb _ _ isOpen, (lt-ltb 0 (r .last) some, tt))) (outside which)
+-- P 0 or 16 at the end, on a record that holds them, whatever the key
+pub blocks-outside-end : (r : Record) (key : ℕ) (rest : Order) → widthAllowed (r .width) ≡ true → r .stage ≡ stageOpen → 0 < r .last
+    → (r .blocks ≡ 0) ⊎ (r .blocks ≡ 16) → firstOf (endOrder r key ++ rest) ≡ Blocks
+blocks-outside-end r key rest allowed isOpen some which =
+    blocks-before-key r allowed (eq-eqb _ _ isOpen) (lt-ltb 0 (r .last) some) key rest (outside which)
   where
     outside : (r .blocks ≡ 0) ⊎ (r .blocks ≡ 16) → blocksAllowed (r .blocks) ≡ false
     outside (inl e) = ap blocksAllowed e
@@ -229,6 +230,45 @@ module _ (h : FileHead) (b : Bodies) (file : ℕ) where
   pub write-blocks-outside : widthAllowed (h .width) ≡ true → 0 < h .batch → (h .blocks ≡ 0) ⊎ (h .blocks ≡ 16) → writeAnswer h b file ≡ Blocks
   unfolding writeAnswer
   write-blocks-outside allowed some outside = head-blocks-outside h _ allowed some outside
+
+-- paper 02, note 5, of files; `WeakKeys` has the steps. Values that are allowed, and bodies: 8 where one hasn't its length, whatever the key; and else 9, whatever is asked after it
+module _ (h : FileHead) (there : Bool) (b : Bodies) (values : AllHold (headOrder (h .width) (h .batch) (h .blocks))) (rest : Order) where
+  abbrev right : Bool
+  right = bodiesRight (h .width) (h .blocks) there (length (b .setup)) (length (b .correction)) (length (b .key)) (length (b .check))
+
+  body-first : right ≡ false → firstOf (valuesFor h there b ++ rest) ≡ Body
+  body-first =
+      body-before-key (h .width) (h .batch) (h .blocks) there (length (b .setup)) (length (b .correction)) (length (b .key)) (length (b .check))
+      (littleEndian (b .key)) values rest
+
+  weak-told : right ≡ true → littleEndian (b .key) < 2 → firstOf (valuesFor h there b ++ rest) ≡ Key
+  weak-told =
+      file-key-told (h .width) (h .batch) (h .blocks) there (length (b .setup)) (length (b .correction)) (length (b .key)) (length (b .check))
+      (littleEndian (b .key)) values rest
+
+-- so of a file that is read
+module _ (file : Range) (contents : contentsRight file ≡ true) (head : headRight (length (bodyOf file 2)) ≡ true)
+    (values : AllHold (headOrder (headOf file .width) (headOf file .batch) (headOf file .blocks))) where
+  abbrev lengths : Bool
+  lengths =
+      bodiesRight (headOf file .width) (headOf file .blocks) (present (countOf file) 1) (length (bodyOf file 1)) (length (bodyOf file 3))
+      (length (bodyOf file 4)) (length (bodyOf file 5))
+
+  pub file-body-first : lengths ≡ false → readAnswer file ≡ Body
+  file-body-first e = values-next file contents head ∙ body-first (headOf file) (present (countOf file) 1) (bodiesOf file) values [] e
+
+  pub file-weak-key : lengths ≡ true → littleEndian (bodyOf file 4) < 2 → readAnswer file ≡ Key
+  file-weak-key e weak = values-next file contents head ∙ weak-told (headOf file) (present (countOf file) 1) (bodiesOf file) values [] e weak
+
+-- and of one that is to be written, whatever length its range has
+module _ (h : FileHead) (b : Bodies) (file : ℕ) (values : AllHold (headOrder (h .width) (h .batch) (h .blocks))) where
+  pub write-body-first : lengthsRight h b ≡ false → writeAnswer h b file ≡ Body
+  unfolding writeAnswer
+  write-body-first e = body-first h (hasSetup b) b values (has file (lengthOf h b) ∷ []) e
+
+  pub write-weak-key : lengthsRight h b ≡ true → littleEndian (b .key) < 2 → writeAnswer h b file ≡ Key
+  unfolding writeAnswer
+  write-weak-key e weak = weak-told h (hasSetup b) b values (has file (lengthOf h b) ∷ []) e weak
 
 -- D = 0 is allowed: no step asks more of it than its length. The sender's two pads of a row are then equal
 pub zero-delta : (blocks batch j : ℕ) (table : List ℕ) → j < 64 * blocks

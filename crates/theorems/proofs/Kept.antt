@@ -82,7 +82,7 @@ sender-correct-gives r siblings delta batch blocks correction table =
 pub receiver-answer-gives : (r : Record) (key : ℕ) (choices table message pads : Range)
     → Gives (Record × Range × Range) (λ a s. ReceiverAnswer r key choices table message pads a (s .0) (s .1) (s .2))
 receiver-answer-gives r key choices table message pads =
-    let a : Answer = firstOf (answerOrder r (length choices) (length table) (length message) (length pads)) in
+    let a : Answer = firstOf (answerOrder r key (length choices) (length table) (length message) (length pads)) in
     record {
       answer = a;
       left = (
@@ -97,7 +97,7 @@ pub sender-verify-gives : (r : Record) (key : ℕ) (table delta message pads : R
     → Gives (Record × Range) (λ a s. SenderVerify r key table delta message pads a (s .0) (s .1))
 sender-verify-gives r key table delta message pads =
     let a : Answer =
-    firstOf (verifyOrder r (length table) (length delta) (length message) (length pads) (accepts columns (columnLength (r .blocks)) key table delta message)) in
+    firstOf (verifyOrder r key (length table) (length delta) (length message) (length pads) (accepts columns (columnLength (r .blocks)) key table delta message)) in
     record {
       answer = a;
       left = (

@@ -11,3 +11,4 @@ pub mod Edges
 pub mod Kept
 pub mod Witness
 pub mod Cheats
+pub mod WeakKeys

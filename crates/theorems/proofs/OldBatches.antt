@@ -64,6 +64,6 @@ module _ (h : HonestBatch) (old : h .batch < 2 ^ 32) where
     v-is = v-is;
     correction-is = correction-is;
     w-is = w-is;
-    pads-are = demand2 h .pads-are ∙ ap (receiverPads columns (h .blocks) (h .batch)) v-is;
-    both-pads-are = demand2 h .both-pads-are ∙ ap (λ (w : List ℕ). senderPads columns (h .blocks) (h .batch) w (h .delta)) w-is;
+    pads-are = λ usable. demand2 h .ends usable .pads-are ∙ ap (receiverPads columns (h .blocks) (h .batch)) v-is;
+    both-pads-are = λ usable. demand2 h .ends usable .both-pads-are ∙ ap (λ (w : List ℕ). senderPads columns (h .blocks) (h .batch) w (h .delta)) w-is;
   }

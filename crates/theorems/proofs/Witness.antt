@@ -211,11 +211,11 @@ module _ (s : Sent) (delta basePads : Range) (r : Record) (allowed : Allowed s d
         of-records = (refl, refl);
       }
 
-  -- where that record has the batch open, and the lengths are those named, nothing but the check decides
-  pub an-unrefused-run : length (s .message) ≡ checkMessageLength
+  -- where that record has the batch open, the key is usable, and the lengths are those named, nothing but the check decides
+  pub an-unrefused-run : 2 ≤ s .key → length (s .message) ≡ checkMessageLength
       → Unrefused (a-run (withBatch r (s .batch) (s .blocks)) (room (senderPadsLength (s .blocks))) .run .answer)
   unfolding a-run
-  an-unrefused-run message-long =
+  an-unrefused-run usable message-long =
       let q : Record = withBatch r (s .batch) (s .blocks) in
       let pads : Range = room (senderPadsLength (s .blocks)) in
       let last = sender-verify-gives q (s .key) (third .left .1) delta (s .message) pads in
@@ -225,7 +225,7 @@ module _ (s : Sent) (delta basePads : Range) (r : Record) (allowed : Allowed s d
       ∙ senderTable-length (treesOf (r .width)) (r .width) (streamByte (s .batch)) len (second .left) delta (treeCorrection len (s .correction))
       ∙ ap (λ (n : ℕ). n * len) (width-fits (r .width) (ap widthAllowed (allowed .ready .wide) ∙ allowed .width-allowed) .columns) in
       check-decides q (s .key) (third .left .1) delta (s .message) pads (last .left .1) (last .answer) (last .left .0) (last .promised)
-      (verify-allowed q k (s .batch) (s .blocks) _ _ _ _ (opens r q k (s .batch) (s .blocks) (allowed .ready) refl) (allowed .width-allowed)
+      (verify-allowed q (s .key) k (s .batch) (s .blocks) _ _ _ _ (opens r q k (s .batch) (s .blocks) (allowed .ready) refl) usable (allowed .width-allowed)
       (omega (arith, allowed .next)) (allowed .some-blocks) (allowed .few-blocks) table-long (allowed .delta-length) message-long
       (room-length (senderPadsLength (s .blocks))))
     where

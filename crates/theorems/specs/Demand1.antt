@@ -43,18 +43,19 @@ pub data Call : List ℕ → Answer → Lent → Lent → Type 0 where
   sender-correct : {r r′ : Record} {batch blocks : ℕ} {siblings delta correction table table′ : Range} {answer : Answer}
       → SenderCorrect r siblings delta batch blocks correction table answer r′ table′
       → Call (1 ∷ 2 ∷ 3 ∷ 4 ∷ 5 ∷ []) answer (session r (table ∷ [])) (session r′ (table′ ∷ []))
+  -- 9 is paper 02's, note 5, here and below
   receiver-answer : {r r′ : Record} {key : ℕ} {choices table message pads message′ pads′ : Range} {answer : Answer}
       → ReceiverAnswer r key choices table message pads answer r′ message′ pads′
-      → Call (1 ∷ 2 ∷ 3 ∷ 4 ∷ 5 ∷ []) answer (session r (message ∷ pads ∷ [])) (session r′ (message′ ∷ pads′ ∷ []))
+      → Call (1 ∷ 2 ∷ 3 ∷ 4 ∷ 9 ∷ 5 ∷ []) answer (session r (message ∷ pads ∷ [])) (session r′ (message′ ∷ pads′ ∷ []))
   sender-verify : {r r′ : Record} {key : ℕ} {table delta message pads pads′ : Range} {answer : Answer}
       → SenderVerify r key table delta message pads answer r′ pads′
-      → Call (1 ∷ 2 ∷ 3 ∷ 4 ∷ 5 ∷ 6 ∷ []) answer (session r (pads ∷ [])) (session r′ (pads′ ∷ []))
-  -- paper 02, notes 1 and 3: 7; 8 for a head of neither length; 1, 3 and 4 on the head; last 8. It is lent nothing to write
+      → Call (1 ∷ 2 ∷ 3 ∷ 4 ∷ 9 ∷ 5 ∷ 6 ∷ []) answer (session r (pads ∷ [])) (session r′ (pads′ ∷ []))
+  -- paper 02, notes 1 and 3: 7; 8 for a head of neither length; 1, 3 and 4 on the head; 8; last 9. It is lent nothing to write
   read-file : {file : Range} {head : FileHead} {places : Places} {answer : Answer} → ReadFile file answer head places
-      → Call (7 ∷ 8 ∷ 1 ∷ 3 ∷ 4 ∷ 8 ∷ []) answer (ranges []) (ranges [])
-  -- note 4: 1, 3, 4 and 8 as the reader, then 5
+      → Call (7 ∷ 8 ∷ 1 ∷ 3 ∷ 4 ∷ 8 ∷ 9 ∷ []) answer (ranges []) (ranges [])
+  -- note 4: 1, 3, 4, 8 and 9 as the reader, then 5
   write-file : {h : FileHead} {b : Bodies} {file file′ : Range} {answer : Answer} → WriteFile h b file answer file′
-      → Call (1 ∷ 3 ∷ 4 ∷ 8 ∷ 5 ∷ []) answer (ranges (file ∷ [])) (ranges (file′ ∷ []))
+      → Call (1 ∷ 3 ∷ 4 ∷ 8 ∷ 9 ∷ 5 ∷ []) answer (ranges (file ∷ [])) (ranges (file′ ∷ []))
 
 -- what a failed check leaves: the record closed, and all ranges as they were
 abbrev pub shut : Lent → Lent

@@ -1,4 +1,4 @@
--- Demand 2, over six steps: both setups and the four steps of a batch, of two honest sides. Assumes nothing.
+-- Demand 2, over six steps: both setups and the four steps of a batch, of two honest sides. Paper 02, note 5. Assumes nothing.
 use mathlib.Core.Path.{_≡_}
 use mathlib.Core.Bool.{true}
 use Prim.Native.Nat.{ℕ, _+_, _*_, _^_, _<_, _≤_}
@@ -105,11 +105,23 @@ pub record HonestBatch : Type 0 where
 abbrev pub ended : (width batch : ℕ) → Record
 ended width batch = record { width = width; last = batch; blocks = 0; stage = stageReady }
 
-pub record Demand2 (h : HonestBatch) : Type 0 where
-  -- every step is done: the last is the verify, so the sender accepts
-  pub setups-done : (h .a₁ ≡ Done) × (h .a₂ ≡ Done)
-  pub batch-done : (h .a₃ ≡ Done) × (h .a₄ ≡ Done) × (h .a₅ ≡ Done) × (h .a₆ ≡ Done)
+-- how an honest batch ends, where its key is usable
+pub record Ends (h : HonestBatch) : Type 0 where
+  -- the answer and the verify are done: so the sender accepts
+  pub ends-done : (h .a₅ ≡ Done) × (h .a₆ ≡ Done)
   pub sessions-ready : (h .r₂ ≡ ended (h .width) (h .batch)) × (h .q₂ ≡ ended (h .width) (h .batch))
+  -- the check message under the key, and both sides' pads under this batch's number
+  pub message-is : h .message′ ≡ checkMessage columns (columnLength (h .blocks)) (h .key) (h .choices′) (h .v′)
+  pub pads-are : h .pads′ ≡ receiverPads columns (h .blocks) (h .batch) (h .v′)
+  pub both-pads-are : h .bothPads′ ≡ senderPads columns (h .blocks) (h .batch) (h .w′) (h .delta)
+  -- and they agree: the receiver's pad of a row is the sender's pad of that choice. Pad 0 stands before pad 1
+  pub pads-agree : (j : ℕ) → j < 64 * h .blocks
+      → part (32 * j) 32 (h .pads′) ≡ part (64 * j + 32 * bitAt (h .choices′) j) 32 (h .bothPads′)
+
+pub record Demand2 (h : HonestBatch) : Type 0 where
+  -- for every key: the setups and the starts are done
+  pub setups-done : (h .a₁ ≡ Done) × (h .a₂ ≡ Done)
+  pub starts-done : (h .a₃ ≡ Done) × (h .a₄ ≡ Done)
   -- the values are paper 01's. The setup message, and the siblings, which are the nodes beside the paths
   pub setup-message-is : h .setupMessage′ ≡ messageOf (treesOf (h .width)) (h .width) (h .roots) (h .basePads)
   pub siblings-are : h .siblings′ ≡ besidePaths (treesOf (h .width)) (h .width) (h .delta) (h .roots)
@@ -121,15 +133,9 @@ pub record Demand2 (h : HonestBatch) : Type 0 where
   pub w-is : h .w′
       ≡ senderTable (treesOf (h .width)) (h .width) (streamByte (h .batch)) (columnLength (h .blocks)) (h .siblings′) (h .delta)
       (treeCorrection (columnLength (h .blocks)) (h .correction′))
-  -- the check message under the key, and both sides' pads under this batch's number
-  pub message-is : h .message′ ≡ checkMessage columns (columnLength (h .blocks)) (h .key) (h .choices′) (h .v′)
-  pub pads-are : h .pads′ ≡ receiverPads columns (h .blocks) (h .batch) (h .v′)
-  pub both-pads-are : h .bothPads′ ≡ senderPads columns (h .blocks) (h .batch) (h .w′) (h .delta)
-  -- and they agree:
-  -- each row of the sender, those of the spent block too, is the receiver's row, with delta added where the choice bit is 1
+  -- and they agree: each row of the sender, those of the spent block too, is the receiver's row, with delta added where the choice bit is 1
   pub rows : (j : ℕ) → j < 64 * (h .blocks + 1)
       → rowOf columns (columnLength (h .blocks)) (h .w′) j
       ≡ xorList (rowOf columns (columnLength (h .blocks)) (h .v′) j) (scale (bitAt (h .choices′) j) (h .delta))
-  -- the receiver's pad of a row is the sender's pad of that choice: pad 0 stands before pad 1
-  pub pads-agree : (j : ℕ) → j < 64 * h .blocks
-      → part (32 * j) 32 (h .pads′) ≡ part (64 * j + 32 * bitAt (h .choices′) j) 32 (h .bothPads′)
+  -- for every usable key: the batch ends, and the pads agree
+  pub ends : 2 ≤ h .key → Ends h

@@ -1,8 +1,8 @@
--- Demand 3, over four steps: receiver setup, sender setup, sender correction, sender verify. Paper 01, 'Contracts and marked lines'.
--- Assumes nothing.
+-- Demand 3, over four steps: receiver setup, sender setup, sender correction, sender verify. Paper 01, 'Contracts and marked lines';
+-- paper 02, note 5. Assumes nothing.
 use mathlib.Core.Path.{_≡_}
 use mathlib.Core.Logic.{_⊎_, _↔_, _≢_}
-use Prim.Native.Nat.{ℕ, _+_, _*_, _/_, _<_}
+use Prim.Native.Nat.{ℕ, _+_, _*_, _/_, _<_, _≤_}
 use Rattle.words.specs.Bytes.{Range, Bytes}
 use Rattle.words.specs.Bits.{bitAt}
 use Rattle.consistency.specs.Message.{columnSide, choiceSide, sentChoice, sentColumn}
@@ -47,7 +47,7 @@ pub record Run (s : Sent) (delta : Range) : Type 0 where
   -- the correction is a range of bytes
   pub bytes : Bytes (s .correction)
 
--- the verify gave none of the refusals 1 to 5
+-- the verify refused nothing before its check: it gave none of 1, 2, 3, 4, 9 and 5
 abbrev pub Unrefused : Answer → Type 0
 Unrefused answer = (answer ≡ Done) ⊎ (answer ≡ Check)
 
@@ -82,11 +82,13 @@ pub record Closes (s : Sent) (delta : Range) (run : Run s delta) : Type 0 where
   pub padded : run .pads′ ≡ run .pads
 
 pub record Demand3 (s : Sent) : Type 0 where
-  -- in every column, the two sides are equal exactly when the errors meet
+  -- for every key: in every column, the two sides are equal exactly when the errors meet
   pub columns-law : (delta : Range) (run : Run s delta) → EveryColumn (λ c. SidesEqual s delta (run .table′) c ↔ ErrorsMeet s delta c)
   -- with nothing else refused, the sender accepts where they meet in every column, and closes where they don't
   pub verdict : (delta : Range) (run : Run s delta) → Unrefused (run .answer) → Accepts s delta run ⊎ Closes s delta run
-  -- a tree whose folded error isn't 0 passes for at most one value of its secret bits
+  -- and its key is then usable: nothing is judged under 0 or 1
+  pub judged-usable : (delta : Range) (run : Run s delta) → Unrefused (run .answer) → 2 ≤ s .key
+  -- for every key: a tree whose folded error isn't 0 passes for at most one value of its secret bits
   pub at-most-one : (delta delta₂ : Range) (run : Run s delta) (run₂ : Run s delta₂) (i : ℕ) → i < treesOf (s .width) → foldedError s i ≢ 0
       → TreePasses s delta (run .table′) i → TreePasses s delta₂ (run₂ .table′) i
       → deltaOf (s .width) delta i ≡ deltaOf (s .width) delta₂ i

@@ -1,6 +1,6 @@
 -- Paper 02, note 3: each old batch, one whose number has 32 bits, gives its old streams and pads. Assumes nothing.
 use mathlib.Core.Path.{_≡_}
-use Prim.Native.Nat.{ℕ}
+use Prim.Native.Nat.{ℕ, _≤_}
 use Rattle.words.specs.Bytes.{Range}
 use Rattle.sizes.specs.Sizes.{columns, treesOf, columnLength}
 use Rattle.tree.specs.Tree.{oldStreamByte}
@@ -39,11 +39,11 @@ oldW h =
     senderTable (treesOf (h .width)) (h .width) (oldStreamByte (h .batch)) (columnLength (h .blocks)) (h .siblings′) (h .delta)
     (treeCorrection (columnLength (h .blocks)) (oldCorrection h))
 
--- both sides end with the pads of these tables; a pad hashes the batch number in 8 bytes, in paper 01 too
+-- where the key is usable, both sides end with the pads of these tables; a pad hashes the batch number in 8 bytes, in paper 01 too
 pub record OldBatch (h : HonestBatch) : Type 0 where
   pub choices-are : h .choices′ ≡ choicesOf (h .width) (oldStreamByte (h .batch)) (columnLength (h .blocks)) (h .roots)
   pub v-is : h .v′ ≡ oldV h
   pub correction-is : h .correction′ ≡ oldCorrection h
   pub w-is : h .w′ ≡ oldW h
-  pub pads-are : h .pads′ ≡ receiverPads columns (h .blocks) (h .batch) (oldV h)
-  pub both-pads-are : h .bothPads′ ≡ senderPads columns (h .blocks) (h .batch) (oldW h) (h .delta)
+  pub pads-are : 2 ≤ h .key → h .pads′ ≡ receiverPads columns (h .blocks) (h .batch) (oldV h)
+  pub both-pads-are : 2 ≤ h .key → h .bothPads′ ≡ senderPads columns (h .blocks) (h .batch) (oldW h) (h .delta)

@@ -1,4 +1,5 @@
-//! A batch's steps, for any inputs: paper 01, 'Trees and streams', 'Folding and pads' and 'Steps and their turning away'.
+//! A batch's steps, for any inputs: paper 01, 'Trees and streams', 'Folding and pads' and 'Steps and their turning away'; which keys are
+//! usable, paper 02, note 5.
 //!
 //! The names are those of setup.rs. Of the paper's letters, u_0 is the choices, V the receiver's table and W the sender's.
 
@@ -10,6 +11,7 @@ pub const STAGE: u32 = 2;
 pub const BATCH: u32 = 3;
 pub const BLOCKS: u32 = 4;
 pub const CHECK: u32 = 6;
+pub const WEAK_KEY: u32 = 9;
 
 pub const READY: u32 = 0;
 pub const OPEN: u32 = 1;
@@ -217,8 +219,13 @@ pub fn verify_lengths(width: usize, blocks: usize) -> [usize; 4] {
 
 // The steps.
 
+/// With 0 the fold sees only the last block, and with 1 it can't tell one block from another.
+pub fn usable(key: u64) -> bool {
+    key >= 2
+}
+
 /// The answer of a step on the refusals that the record and the numbers give: in this order, and then the lengths.
-fn refusal(record: Record, stage: u32, batch_right: bool, blocks: u32, lengths_right: impl Fn() -> bool) -> u32 {
+fn refusal(record: Record, stage: u32, batch_right: bool, blocks: u32, key_right: bool, lengths_right: impl Fn() -> bool) -> u32 {
     if !WIDTHS.contains(&record.width) {
         WIDTH
     } else if record.stage != stage {
@@ -227,6 +234,8 @@ fn refusal(record: Record, stage: u32, batch_right: bool, blocks: u32, lengths_r
         BATCH
     } else if !(1..=15).contains(&blocks) {
         BLOCKS
+    } else if !key_right {
+        WEAK_KEY
     } else if !lengths_right() {
         LENGTH
     } else {
@@ -234,16 +243,16 @@ fn refusal(record: Record, stage: u32, batch_right: bool, blocks: u32, lengths_r
     }
 }
 
-/// The answer of a step that opens a batch.
+/// The answer of a step that opens a batch, which takes no key.
 fn opening(record: Record, batch: u64, blocks: u32, lengths: impl Fn(usize, usize) -> [usize; 4], given: [&[u8]; 4]) -> u32 {
     let right = || given.map(<[u8]>::len) == lengths(record.width as usize, blocks as usize);
-    refusal(record, READY, batch != 0 && batch > record.last, blocks, right)
+    refusal(record, READY, batch != 0 && batch > record.last, blocks, true, right)
 }
 
 /// The answer of a step that ends a batch, but for the check.
-fn ending(record: Record, lengths: impl Fn(usize, usize) -> [usize; 4], given: [&[u8]; 4]) -> u32 {
+fn ending(record: Record, key: u64, lengths: impl Fn(usize, usize) -> [usize; 4], given: [&[u8]; 4]) -> u32 {
     let right = || given.map(<[u8]>::len) == lengths(record.width as usize, record.blocks as usize);
-    refusal(record, OPEN, record.last != 0, record.blocks, right)
+    refusal(record, OPEN, record.last != 0, record.blocks, usable(key), right)
 }
 
 /// The record in a batch.
@@ -306,7 +315,7 @@ pub fn sender_correct(record: Record, batch: u64, blocks: u32, ranges: [&[u8]; 4
 }
 
 pub fn receiver_answer(record: Record, key: u64, ranges: [&[u8]; 4]) -> Given {
-    let answer = ending(record, answer_lengths, ranges);
+    let answer = ending(record, key, answer_lengths, ranges);
     if answer != DONE {
         return (answer, record, vec![]);
     }
@@ -316,7 +325,7 @@ pub fn receiver_answer(record: Record, key: u64, ranges: [&[u8]; 4]) -> Given {
 }
 
 pub fn sender_verify(record: Record, key: u64, ranges: [&[u8]; 4]) -> Given {
-    let answer = ending(record, verify_lengths, ranges);
+    let answer = ending(record, key, verify_lengths, ranges);
     if answer != DONE {
         return (answer, record, vec![]);
     }

@@ -1,8 +1,8 @@
-//! A batch on file, for any bytes: paper 02, notes 1, 3 and 4.
+//! A batch on file, for any bytes: paper 02, notes 1, 3, 4 and 5.
 //!
 //! A file has its contents, then its bodies: of the kinds in order, of which the setup may be absent. The names are those of setup.rs.
 
-use super::batch::{BATCH, BLOCKS};
+use super::batch::{usable, BATCH, BLOCKS, WEAK_KEY};
 use super::setup::{DONE, LENGTH, WIDTH, WIDTHS};
 use super::sizes;
 use crate::library::File;
@@ -90,10 +90,14 @@ pub fn head_length_right(length: usize) -> bool {
     [sizes::head_length(), sizes::short_head_length()].contains(&length)
 }
 
+/// The number that 8 bytes or fewer hold.
+fn long(bytes: &[u8]) -> u64 {
+    bytes.iter().rev().fold(0, |value, byte| value << 8 | u64::from(*byte))
+}
+
 /// The values of a head of either length.
 fn head_in(head: &[u8]) -> (u32, u32, u64) {
-    let batch = head[2..].iter().rev().fold(0, |value, byte| value << 8 | u64::from(*byte));
-    (u32::from(head[0]), u32::from(head[1]), batch)
+    (u32::from(head[0]), u32::from(head[1]), long(&head[2..]))
 }
 
 /// The length that a body has, by its kind; of a head the longer one.
@@ -108,27 +112,28 @@ pub fn body_length(width: usize, blocks: usize, kind: u32) -> usize {
     }
 }
 
-/// The answer that the head and the other bodies get, and the head's values.
-fn answer_to(entries: &[Entry], head: &[u8]) -> (u32, u32, u32, u64) {
+/// The answer that the head and the other bodies get, each given with its kind, and the head's values.
+fn answer_to(head: &[u8], others: &[(u32, &[u8])]) -> (u32, u32, u32, u64) {
     if !head_length_right(head.len()) {
         return (BODY, 0, 0, 0);
     }
     let (width, blocks, batch) = head_in(head);
-    let others = entries.iter().filter(|entry| entry.kind != HEAD);
-    let answer = answer_by(width, blocks, batch, others.map(|entry| (entry.kind, entry.length as usize)));
-    (answer, width, blocks, batch)
+    (answer_by(width, blocks, batch, others), width, blocks, batch)
 }
 
-/// The answer that the head's values get, and then the other bodies, of which each kind is given with the body's length.
-fn answer_by(width: u32, blocks: u32, batch: u64, mut others: impl Iterator<Item = (u32, usize)>) -> u32 {
+/// The answer that the head's values get, and then the other bodies.
+fn answer_by(width: u32, blocks: u32, batch: u64, others: &[(u32, &[u8])]) -> u32 {
+    let length_right = |kind, body: &[u8]| body.len() == body_length(width as usize, blocks as usize, kind);
     if !WIDTHS.contains(&width) {
         WIDTH
     } else if batch == 0 {
         BATCH
     } else if !(1..=15).contains(&blocks) {
         BLOCKS
-    } else if !others.all(|(kind, length)| length == body_length(width as usize, blocks as usize, kind)) {
+    } else if !others.iter().all(|(kind, body)| length_right(*kind, body)) {
         BODY
+    } else if others.iter().any(|(kind, body)| *kind == KEY && !usable(long(body))) {
+        WEAK_KEY
     } else {
         DONE
     }
@@ -142,11 +147,14 @@ pub fn read(file: &[u8]) -> File {
         None => return refused(CONTENTS, file),
     };
     let place = |kind| entries.iter().find(|entry| entry.kind == kind).map(|entry| u64::from(entry.offset));
-    let (head, correction) = (place(HEAD).unwrap(), place(CORRECTION).unwrap());
-    let (answer, width, blocks, batch) = answer_to(&entries, &file[head as usize..correction as usize]);
+    let body = |entry: &Entry| &file[entry.offset as usize..(entry.offset + entry.length) as usize];
+    let bodies: Vec<(u32, &[u8])> = entries.iter().map(|entry| (entry.kind, body(entry))).collect();
+    let (heads, others): (Vec<_>, Vec<_>) = bodies.into_iter().partition(|(kind, _)| *kind == HEAD);
+    let (answer, width, blocks, batch) = answer_to(heads[0].1, &others);
     if answer != DONE {
         return refused(answer, file);
     }
+    let head = place(HEAD).unwrap();
     File {
         answer,
         width,
@@ -154,7 +162,7 @@ pub fn read(file: &[u8]) -> File {
         batch,
         setup: place(SETUP).unwrap_or(head),
         head,
-        correction,
+        correction: place(CORRECTION).unwrap(),
         key: place(KEY).unwrap(),
         check: place(CHECK).unwrap(),
         end: file.len() as u64,
@@ -192,7 +200,7 @@ pub fn write_batch(width: u32, blocks: u32, batch: u64, ranges: [&[u8]; 5]) -> (
     if !setup.is_empty() {
         bodies.push((SETUP, setup));
     }
-    let answer = answer_by(width, blocks, batch, bodies.iter().map(|(kind, body)| (*kind, body.len())));
+    let answer = answer_by(width, blocks, batch, &bodies);
     if answer != DONE {
         return (answer, vec![]);
     }

@@ -2,11 +2,10 @@
 use mathlib.Core.Path.{_≡_, sym, ap, ap₂, _∙_}
 use Prim.Native.Nat.{ℕ}
 use native.Mathlib.Omega.{arith}
-use lib.ListN.{length}
 use Rattle.words.specs.Bytes.{part}
 use Rattle.rules.specs.Orders.{headRight}
-use Rattle.batchfile.specs.File.{countOf, placeAt, entryOf, bodyOf, headIn}
-use Rattle.batchfile.proofs.Reading.{head-body, head-fits}
+use Rattle.batchfile.specs.File.{countOf, placeAt, entryOf, headIn}
+use Rattle.batchfile.proofs.Reading.{body-there, body-inside}
 use borrow.Author.Needs.{needs}
 use Rattle.batchfile.proofs.head_of.Statement.{statement}
 use Rattle.batchfile.proofs.head_of.Tie as tie
@@ -28,7 +27,7 @@ head-at-requires : tie.Need-head-at-requires
 head-at-requires c κs =
     let s = c .before .before .before in
     let file = s .args .file .now in
-    (ap headRight (c .length-of .ensures) ∙ s .pre .2, omega (arith, place (c .before), c .length-of .ensures, head-fits file (s .pre .0)))
+    (ap headRight (c .length-of .ensures) ∙ s .pre .2, omega (arith, place (c .before), c .length-of .ensures, body-inside file (s .pre .0) 2 (omega arith) (omega arith)))
 
 returns : tie.Need-returns
 returns c =
@@ -36,7 +35,7 @@ returns c =
     let file = s .args .file .now in
     c .head-at .ensures
     ∙ ap₂ (λ (at n : ℕ). headIn (part at n file)) (place (c .before .before)) (c .before .length-of .ensures)
-    ∙ sym (ap headIn (head-body file (s .pre .0)))
+    ∙ sym (ap headIn (body-there file (s .pre .0) 2 (omega arith) (omega arith)))
 
 pub head-of-spec : {M : Type 1} → statement M
 head-of-spec = tie.close (tie.spec place-of-requires length-of-requires head-at-requires returns)

@@ -41,8 +41,8 @@ returns c =
     ∷ has (a .message) checkMessageLength
     ∷ has (a .pads) (receiverPadsLength (a .r .blocks))
     ∷ [] in
-    let steps : c .has4 .result ≡ chain (firstOf (endOrder (a .r))) rest = cc in
-    steps ∙ chain-onward (endOrder (a .r)) rest refl refl
+    let steps : c .has4 .result ≡ chain (firstOf (endOrder (a .r) (a .key))) rest = cc in
+    steps ∙ chain-onward (endOrder (a .r) (a .key)) rest refl refl
 
 pub receiver-answer-spec : {M : Type 1} → statement M
 receiver-answer-spec =

@@ -38,8 +38,8 @@ returns c =
     ∷ has (a .message) checkMessageLength
     ∷ has (a .pads) (senderPadsLength (a .r .blocks))
     ∷ [] in
-    let steps : c .has4 .result ≡ chain (firstOf (endOrder (a .r))) rest = cc in
-    steps ∙ chain-onward (endOrder (a .r)) rest refl refl
+    let steps : c .has4 .result ≡ chain (firstOf (endOrder (a .r) (a .key))) rest = cc in
+    steps ∙ chain-onward (endOrder (a .r) (a .key)) rest refl refl
 
 pub sender-verify-spec : {M : Type 1} → statement M
 sender-verify-spec =

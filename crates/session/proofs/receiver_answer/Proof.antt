@@ -31,10 +31,10 @@ refused c = sym (c .before .is-done .ensures) ∙ c .if1 .left
 -- what an answer of done tells
 fits : (c : tie.Then1)
     → let a = c .before .before .before .before .before .before .before .args in
-    AnswerTells (a .r) (length (now (a .choices))) (length (now (a .table))) (length (now (a .message))) (length (now (a .pads)))
+    AnswerTells (a .r) (a .key) (length (now (a .choices))) (length (now (a .table))) (length (now (a .message))) (length (now (a .pads)))
 fits c =
     let a = c .before .before .before .before .before .before .before .args in
-    answer-fits (a .r) (length (now (a .choices))) (length (now (a .table))) (length (now (a .message))) (length (now (a .pads)))
+    answer-fits (a .r) (a .key) (length (now (a .choices))) (length (now (a .table))) (length (now (a .message))) (length (now (a .pads)))
     (ap isDone (sym (c .before .before .receiver-answer .ensures)) ∙ done c)
 
 write-message-requires : tie.Need-write-message-requires

@@ -35,7 +35,7 @@ refused c = sym (c .before .is-done .ensures) ∙ c .if1 .left
 abbrev asked : tie.Start → Order
 asked s =
     let a = s .args in
-    beforeCheck (a .r) (length (now (a .table))) (length (now (a .delta))) (length (now (a .message))) (length (now (a .pads)))
+    beforeCheck (a .r) (a .key) (length (now (a .table))) (length (now (a .delta))) (length (now (a .message))) (length (now (a .pads)))
 
 -- an answer of done tells that they hold
 holds : (c : tie.Then1) → AllHold (asked (c .before .before .before .before .before .before .before))
@@ -43,10 +43,10 @@ holds c = all-hold (asked (c .before .before .before .before .before .before .be
 
 fits : (c : tie.Then1)
     → let a = c .before .before .before .before .before .before .before .args in
-    VerifyTells (a .r) (length (now (a .table))) (length (now (a .delta))) (length (now (a .message))) (length (now (a .pads)))
+    VerifyTells (a .r) (a .key) (length (now (a .table))) (length (now (a .delta))) (length (now (a .message))) (length (now (a .pads)))
 fits c =
     let a = c .before .before .before .before .before .before .before .args in
-    verify-fits (a .r) (length (now (a .table))) (length (now (a .delta))) (length (now (a .message))) (length (now (a .pads))) (holds c)
+    verify-fits (a .r) (a .key) (length (now (a .table))) (length (now (a .delta))) (length (now (a .message))) (length (now (a .pads))) (holds c)
 
 column-length-requires : tie.Need-column-length-requires
 column-length-requires c κs = search needs
