@@ -347,8 +347,8 @@ struct softspoken_file {
     uint64_t end;        /* the file's length */
 };
 
-/* Reads a file. It looks at the form alone: it can't tell who wrote the file, or whether the check passed. It writes
-   nothing and copies nothing.
+/* Reads a file. It looks at the form and the key alone: it can't tell who wrote the file, or whether the check passed.
+   It writes nothing and copies nothing.
    Refusals, in this order: ERR_CONTENTS if the count, a kind, an offset or the file's end breaks the rules above;
    ERR_BODY if the head has neither of its two lengths; ERR_WIDTH; ERR_BATCH if the batch number is 0; ERR_BLOCKS;
    ERR_BODY if another body hasn't the length above; ERR_KEY.

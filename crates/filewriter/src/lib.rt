@@ -1,4 +1,5 @@
-// A batch written to a file, from its start to its end, so that the reader takes it and gives the same back. The bodies are only copied.
+// A batch written to a file, from its start to its end, so that the reader takes it and gives the same back. Of the bodies' bytes only the
+// key's are looked at.
 use answer::Answer;
 ghost use mathlib.Core.Path.{_≡_};
 ghost use mathlib.Core.Bool.{true, not};

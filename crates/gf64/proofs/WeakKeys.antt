@@ -4,11 +4,11 @@ use mathlib.Core.List.{List, [], _∷_, _++_}
 use Prim.Native.Nat.{ℕ, zero, suc, _+_, _*_, _/_, _%_, _^_, _<_}
 use native.Mathlib.Nat.{mul-zero, mul-one, zero-mul, one-mul, pow-suc}
 use native.Mathlib.Omega.{arith}
-use lib.Bits.{bitXor, xor-zero-r, xor-comm, xor-lt}
+use lib.Bits.{bitXor, xor-zero-r, xor-comm, xor-lt, xor-block}
 use lib.Pow.{pow-pos}
 use lib.ListN.{length, getD}
 use Rattle.words.specs.Xor.{_⊕_, sumTo}
-use Rattle.words.proofs.Xor.{digit, low-lt, xor-half, xor-low, xor-assoc}
+use Rattle.words.proofs.Xor.{digit, low-lt, xor-assoc}
 use Rattle.words.proofs.Sums.{sumTo-first}
 use Rattle.gf64.specs.Field.{timesX, timesLow, times, foldFrom, fold}
 use Rattle.gf64.proofs.FoldLaws.{timesX-xor, timesLow-lt, Words64}
@@ -57,13 +57,9 @@ small-X a lt =
 -- a lowest bit beside the others
 low-beside : (d y : ℕ) → d < 2 → d ⊕ y * 2 ≡ d + y * 2
 low-beside d y lt =
-    let none : d / 2 ≡ 0 = omega arith in
-    let others : y * 2 / 2 ≡ y = omega arith in
-    let lowest : d % 2 ≡ d = omega arith in
-    let even : y * 2 % 2 ≡ 0 = omega arith in
-    let half : (d ⊕ y * 2) / 2 ≡ y = xor-half d (y * 2) ∙ ap₂ bitXor none others in
-    let low : (d ⊕ y * 2) % 2 ≡ d = xor-low d (y * 2) ∙ ap₂ bitXor lowest even ∙ xor-zero-r d in
-    omega (arith, half, low)
+    let lowest : d ≡ 0 * 2 ^ 1 + d = omega arith in
+    let others : y * 2 ≡ y * 2 ^ 1 + 0 = omega arith in
+    ap₂ bitXor lowest others ∙ xor-block 1 0 y d 0 lt (omega arith) ∙ omega (arith, xor-zero-r d)
 
 -- so a product with 1 is the word itself: of n bits, and of all
 one-times : (n a : ℕ) → a < 2 ^ n → a < 2 ^ 64 → timesLow n 1 a ≡ a
@@ -104,6 +100,7 @@ fold-one-order us a b vs words = from 0 us (pow-pos 64) words
         (two a b (words 0) ∙ xor-assoc acc a b ∙ ap (bitXor acc) (xor-comm a b) ∙ sym (xor-assoc acc b a) ∙ sym (two b a (words 1)))
       where
         two : (x y : ℕ) → x < 2 ^ 64 → times 1 (times 1 acc ⊕ x) ⊕ y ≡ acc ⊕ x ⊕ y
-        two x y small = ap (λ (z : ℕ). times 1 (z ⊕ x) ⊕ y) (one-word acc lt) ∙ ap (λ (z : ℕ). z ⊕ y) (one-word (acc ⊕ x) (xor-lt 64 acc x lt small))
+        two x y small =
+            ap (λ (z : ℕ). times 1 (z ⊕ x) ⊕ y) (one-word acc lt) ∙ ap (λ (z : ℕ). z ⊕ y) (one-word (acc ⊕ x) (xor-lt 64 acc x lt small))
     from acc (u ∷ us) lt words =
         from (times 1 acc ⊕ u) us (xor-lt 64 (times 1 acc) u (timesLow-lt 64 1 acc (omega arith)) (words 0)) (λ i. words (suc i))

@@ -14,7 +14,8 @@ use Rattle.rules.proofs.Allowed.{key-weak}
 
 -- ---- the answer and the verify, on a record that has a batch open
 
-module _ (r : Record) (allowed : widthAllowed (r .width) ≡ true) (open-now : eqb (r .stage) stageOpen ≡ true) (some : ltb 0 (r .last) ≡ true) where
+module _ (r : Record) (allowed : widthAllowed (r .width) ≡ true) (open-now : eqb (r .stage) stageOpen ≡ true)
+    (some : ltb 0 (r .last) ≡ true) where
   abbrev three : Order
   three = (widthAllowed (r .width), Width) ∷ (eqb (r .stage) stageOpen, Stage) ∷ (ltb 0 (r .last), Batch) ∷ []
 
@@ -26,7 +27,8 @@ module _ (r : Record) (allowed : widthAllowed (r .width) ≡ true) (open-now : e
     -- then 9, whatever is asked after it
     pub key-told : (rest : Order) → firstOf (endOrder r key ++ rest) ≡ Key
     key-told rest =
-        refused-at (three ++ ((blocksAllowed (r .blocks), Blocks) ∷ [])) rest (keyUsable key) Key (allowed, (open-now, (some, (blocks, tt)))) (key-weak key weak)
+        refused-at (three ++ ((blocksAllowed (r .blocks), Blocks) ∷ [])) rest (keyUsable key) Key (allowed, (open-now, (some, (blocks, tt))))
+        (key-weak key weak)
 
     -- so before 5: of any lengths
     pub answer-key-told : (choices table message pads : ℕ) → firstOf (answerOrder r key choices table message pads) ≡ Key
@@ -38,7 +40,8 @@ module _ (r : Record) (allowed : widthAllowed (r .width) ≡ true) (open-now : e
 
 -- ---- a batch on file, whose head's values are allowed
 
-module _ (width batch blocks : ℕ) (present : Bool) (setup correction key check keyNumber : ℕ) (head : AllHold (headOrder width batch blocks)) (rest : Order) where
+module _ (width batch blocks : ℕ) (present : Bool) (setup correction key check keyNumber : ℕ)
+    (head : AllHold (headOrder width batch blocks)) (rest : Order) where
   abbrev right : Bool
   right = bodiesRight width blocks present setup correction key check
 
@@ -49,4 +52,5 @@ module _ (width batch blocks : ℕ) (present : Bool) (setup correction key check
   -- then 9, whatever is asked after it: so before the writer's 5
   pub file-key-told : right ≡ true → keyNumber < 2 → firstOf (fileOrder width batch blocks present setup correction key check keyNumber ++ rest) ≡ Key
   file-key-told e weak =
-      refused-at (headOrder width batch blocks ++ ((right, Body) ∷ [])) rest (keyUsable keyNumber) Key (hold-more (headOrder width batch blocks) ((right, Body) ∷ []) head (e, tt)) (key-weak keyNumber weak)
+      refused-at (headOrder width batch blocks ++ ((right, Body) ∷ [])) rest (keyUsable keyNumber) Key
+      (hold-more (headOrder width batch blocks) ((right, Body) ∷ []) head (e, tt)) (key-weak keyNumber weak)

@@ -42,7 +42,7 @@ pub record SenderCorrect (r : Record) (siblings delta : Range) (batch blocks : �
       ≡ whenDone answer (senderTable (treesOf (r .width)) (r .width) (streamByte batch) (columnLength blocks) siblings delta
       (treeCorrection (columnLength blocks) correction)) table
 
--- ---- the two that end it: they refuse a key that isn't usable, and then, too, record and ranges are as before
+-- ---- the two that end it. After 9, as after 1 to 5, record and ranges are as before
 
 -- all that the receiver's answer promises
 pub record ReceiverAnswer (r : Record) (key : ℕ) (choices table message pads : Range)

@@ -218,7 +218,7 @@ module _ (h : HonestBatch) where
   correction-is =
       h .receiver-start .corrected ∙ got (h .a₃) _ _ start-done ∙ ap (λ (w : ℕ). correctionOf (treesOf w) w stream len (h .roots)) (h .receiver-ready .wide)
 
-  receiver-opened : Opened (h .r₁) k (h .batch) (h .blocks)
+  pub receiver-opened : Opened (h .r₁) k (h .batch) (h .blocks)
   receiver-opened = opens (h .r) (h .r₁) k (h .batch) (h .blocks) (h .receiver-ready) (h .receiver-start .recorded ∙ got (h .a₃) _ _ start-done)
 
   -- the sender's correction
@@ -239,7 +239,7 @@ module _ (h : HonestBatch) where
       w-filled
       ∙ ap₂ (λ (s c : List ℕ). senderTable n k stream len s (h .delta) (treeCorrection len c)) siblings-is correction-is
 
-  sender-opened : Opened (h .q₁) k (h .batch) (h .blocks)
+  pub sender-opened : Opened (h .q₁) k (h .batch) (h .blocks)
   sender-opened = opens (h .q) (h .q₁) k (h .batch) (h .blocks) (h .sender-ready) (h .sender-correct .recorded ∙ got (h .a₄) _ _ correct-done)
 
   -- each row of the sender

@@ -1,5 +1,4 @@
--- Paper 02, note 5: what a key that isn't usable, 0 or 1, does to an open batch. Nothing: it stays open, and is ended with one that is. Assumes
--- nothing.
+-- Paper 02, note 5: a key that isn't usable, 0 or 1, leaves a batch open, and it may then be ended with one that is. Assumes nothing.
 use mathlib.Core.Path.{_≡_, ap, _∙_, subst}
 use mathlib.Core.Bool.{true}
 use Prim.Native.Nat.{ℕ, _+_, _*_, _^_, _<_, _≤_}
@@ -15,12 +14,12 @@ use Rattle.answer.specs.Answer.{isDone, whenDone, whenFailed}
 use Rattle.answer.proofs.Order.{old-when}
 use Rattle.consistency.specs.Message.{accepts}
 use Rattle.rules.specs.declared.Record.{Record}
-use Rattle.rules.specs.Orders.{stageOpen, withBatch, withoutBatch, closed, blocksAllowed}
+use Rattle.rules.specs.Orders.{stageOpen, withoutBatch, closed, blocksAllowed}
 use Rattle.rules.proofs.Allowed.{blocks-allowed}
 use Rattle.rules.proofs.Keys.{answer-key-told, verify-key-told}
 use Rattle.session.specs.Steps.{ReceiverAnswer, SenderVerify}
-use Rattle.theorems.specs.Demand2.{Ready, HonestBatch}
-use Rattle.theorems.proofs.Demand2.{opens, demand2}
+use Rattle.theorems.specs.Demand2.{HonestBatch}
+use Rattle.theorems.proofs.Demand2.{Opened, receiver-opened, sender-opened, demand2}
 use Rattle.theorems.proofs.Kept.{receiver-answer-gives, sender-verify-gives}
 
 -- ---- any open batch
@@ -73,11 +72,8 @@ pub record StillOpen (h : HonestBatch) : Type 0 where
 
 pub still-open : (h : HonestBatch) → h .key < 2 → StillOpen h
 still-open h weak =
-    let done = demand2 h .starts-done in
-    let mine = weak-answer (h .r₁) (h .r₂) (h .key) _ _ _ _ _ _ (h .a₅) (now (h .r) (h .r₁) (h .receiver-ready) (omega (arith, h .receiver-next))
-    (h .receiver-start .recorded ∙ ap (λ (a : Answer). whenDone a (withBatch (h .r) (h .batch) (h .blocks)) (h .r)) (done .0))) weak (h .receiver-answer) in
-    let theirs = weak-verify (h .q₁) (h .q₂) (h .key) _ _ _ _ _ (h .a₆) (now (h .q) (h .q₁) (h .sender-ready) (omega (arith, h .sender-next))
-    (h .sender-correct .recorded ∙ ap (λ (a : Answer). whenDone a (withBatch (h .q) (h .batch) (h .blocks)) (h .q)) (done .1))) weak (h .sender-verify) in
+    let mine = weak-answer (h .r₁) (h .r₂) (h .key) _ _ _ _ _ _ (h .a₅) (now (h .r₁) (receiver-opened h)) weak (h .receiver-answer) in
+    let theirs = weak-verify (h .q₁) (h .q₂) (h .key) _ _ _ _ _ (h .a₆) (now (h .q₁) (sender-opened h)) weak (h .sender-verify) in
     record {
       answered = mine .0;
       receiver-kept = mine .1;
@@ -88,15 +84,13 @@ still-open h weak =
       both-pads-kept = theirs .2;
     }
   where
-    now : (r r₁ : Record) → Ready r (h .width) → 0 < h .batch → r₁ ≡ withBatch r (h .batch) (h .blocks) → OpenNow r₁
-    now r r₁ ready some e =
-        let o = opens r r₁ (h .width) (h .batch) (h .blocks) ready e in
-        record {
-          width = ap widthAllowed (o .wide) ∙ h .width-allowed;
-          stage = o .open-now;
-          some = omega (arith, o .last-is);
-          blocks = ap blocksAllowed (o .blocks-are) ∙ blocks-allowed (h .blocks) (h .some-blocks) (h .few-blocks);
-        }
+    now : (r : Record) → Opened r (h .width) (h .batch) (h .blocks) → OpenNow r
+    now r o = record {
+      width = ap widthAllowed (o .wide) ∙ h .width-allowed;
+      stage = o .open-now;
+      some = omega (arith, o .last-is, h .receiver-next);
+      blocks = ap blocksAllowed (o .blocks-are) ∙ blocks-allowed (h .blocks) (h .some-blocks) (h .few-blocks);
+    }
 
 -- both sides are called once more, on what they then have, with a usable key
 pub record CalledAgain (h : HonestBatch) : Type 0 where
