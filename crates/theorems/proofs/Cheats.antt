@@ -67,8 +67,8 @@ cheat-passes s x guess cheat delta run unrefused = by (demand3 s .verdict delta 
           ∙ sym (erred c lt))),
     )
 
--- there is such a run of every guess and every delta, at every width, batch, blocks and usable key that are allowed: so some runs with errors pass, and some
--- close
+-- there is such a run of every guess and every delta, at every width, batch and blocks that are allowed and every usable key: so some runs
+-- with errors pass, and some close
 pub record CheatRun (width batch blocks key : ℕ) (roots delta guess : Range) (x : ℕ) : Type 0 where
   pub sent : Sent
   pub of-numbers : (sent .width ≡ width) × (sent .batch ≡ batch) × (sent .blocks ≡ blocks) × (sent .key ≡ key)

@@ -231,7 +231,8 @@ module _ (h : FileHead) (b : Bodies) (file : ℕ) where
   unfolding writeAnswer
   write-blocks-outside allowed some outside = head-blocks-outside h _ allowed some outside
 
--- paper 02, note 5, of files; `WeakKeys` has the steps. Values that are allowed, and bodies: 8 where one hasn't its length, whatever the key; and else 9, whatever is asked after it
+-- paper 02, note 5, of files; `WeakKeys` has the steps. Where the head's values are allowed: 8 for a body that hasn't its length, whatever
+-- the key; and else 9 for the key, whatever is asked after it
 module _ (h : FileHead) (there : Bool) (b : Bodies) (values : AllHold (headOrder (h .width) (h .batch) (h .blocks))) (rest : Order) where
   abbrev right : Bool
   right = bodiesRight (h .width) (h .blocks) there (length (b .setup)) (length (b .correction)) (length (b .key)) (length (b .check))
