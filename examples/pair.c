@@ -96,8 +96,9 @@ static int batch(uint64_t number, uint8_t damage) {
         !done("correct", softspoken_sender_correct(&sender.record, RANGE(sender.siblings), RANGE(sender.delta), number,
                                                    BLOCKS, RANGE(sent.correction), RANGE(sender.table))))
         return 0;
-    do draw(&key, sizeof key); /* the sender's, and only now that the correction has come */
-    while (key < 2);           /* 0 and 1 are no usable keys */
+    do {
+        draw(&key, sizeof key); /* the sender's, and only now that the correction has come */
+    } while (key < 2);          /* 0 and 1 are no usable keys */
     if (!done("answer", softspoken_receiver_answer(&receiver.record, key, RANGE(receiver.choices),
                                                    RANGE(receiver.table), RANGE(sent.check), RANGE(receiver.pads))))
         return 0;

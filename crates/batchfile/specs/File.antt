@@ -83,7 +83,7 @@ headOf file = headIn (bodyOf file 2)
 
 -- ---- what is read
 
--- 1, 3 for batch 0, and 4 on the head; 8 if a body's length isn't the one its kind has for that head; last 9 for the key's 8-byte number
+-- 1, 3 for batch 0, and 4 on the head; 8 if a body's length isn't the one its kind has for that head; last 9 for a key that isn't usable
 abbrev pub valuesOrder : (file : Range) → Order
 valuesOrder file =
     fileOrder (headOf file .width) (headOf file .batch) (headOf file .blocks) (present (countOf file) 1) (length (bodyOf file 1))

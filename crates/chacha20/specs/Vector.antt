@@ -5,7 +5,8 @@ use mathlib.Core.List.{List, [], _∷_}
 use Rattle.words.specs.Bytes.{bytesOfWords}
 use Rattle.words.specs.Word32.{rotl}
 use Rattle.chacha20.specs.declared.Quad.{Quad}
-use Rattle.chacha20.specs.ChaCha.{halfQuarter, quarterRound, putQuad, quarterAt, columnRound, diagonalRound, doubleRound, doubleRounds, addWords, startOf, blockWords, blockOf}
+use Rattle.chacha20.specs.ChaCha.{halfQuarter, quarterRound, putQuad, quarterAt, columnRound, diagonalRound}
+use Rattle.chacha20.specs.ChaCha.{doubleRound, doubleRounds, addWords, startOf, blockWords, blockOf}
 
 -- 2.1.1
 quarter : _≡_ {A = Quad} (quarterRound 0x11111111 0x01020304 0x9b8d6f43 0x01234567)
@@ -27,5 +28,6 @@ block : _≡_ {A = List ℕ} (blockOf key 1 nonce)
     ∷ 0xc7 ∷ 0xd1 ∷ 0xf4 ∷ 0xc7 ∷ 0x33 ∷ 0xc0 ∷ 0x68 ∷ 0x03 ∷ 0x04 ∷ 0x22 ∷ 0xaa ∷ 0x9a ∷ 0xc3 ∷ 0xd4 ∷ 0x6c ∷ 0x4e
     ∷ 0xd2 ∷ 0x82 ∷ 0x64 ∷ 0x46 ∷ 0x07 ∷ 0x9f ∷ 0xaa ∷ 0x09 ∷ 0x14 ∷ 0xc2 ∷ 0xd7 ∷ 0x05 ∷ 0xd9 ∷ 0x8b ∷ 0x02 ∷ 0xa2
     ∷ 0xb5 ∷ 0x12 ∷ 0x9c ∷ 0xd1 ∷ 0xde ∷ 0x16 ∷ 0x4e ∷ 0xb9 ∷ 0xcb ∷ 0xd0 ∷ 0x83 ∷ 0xe8 ∷ 0xa2 ∷ 0x50 ∷ 0x3c ∷ 0x4e ∷ [])
-unfolding blockOf blockWords bytesOfWords doubleRounds doubleRound columnRound diagonalRound quarterAt putQuad quarterRound halfQuarter rotl addWords startOf key nonce
+unfolding blockOf blockWords bytesOfWords doubleRounds doubleRound columnRound diagonalRound quarterAt putQuad quarterRound halfQuarter
+    rotl addWords startOf key nonce
 block = refl
