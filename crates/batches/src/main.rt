@@ -2,13 +2,14 @@
 // the session's record after it, and digests of the ranges that it was lent. The records and the lines to be printed are written by
 // reference/. What a program reads and writes no contract can say, so these functions have none, or only what makes their callers safe;
 // that the lines are right is for the comparison to show.
+#![tactic(auto)]
 ghost use Rattle.std.specs.Prelude.{◌≡◌, ◌+◌, ◌≤◌, length};
 ghost use Rattle.sizes.specs.Sizes.{siblings_length};
 
 use libc::STDIN_FILENO;
 
 // Two sessions, one on each side.
-#[derive(Drop)]
+#[derive(Clone, Copy)]
 struct Sessions {
     receiver: rules::Record,
     sender: rules::Record,

@@ -1,4 +1,5 @@
 // A batch on file: whether it may be read, its head, and where its bodies begin. Nothing of it is copied.
+#![tactic(auto)]
 pub mod values;
 
 ghost use Rattle.std.specs.Prelude.{◌≡◌, true, false, ◌&&◌, ◌+◌, ◌-◌, ◌^◌, ◌≤◌, ◌<◌, eqb, length};
@@ -11,7 +12,7 @@ ghost use Rattle.batchfile.specs.File.{count_of, field_at, place_at, entry_right
 use answer::Answer;
 
 // What a head says: the width, the blocks and the batch number.
-#[derive(Drop)]
+#[derive(Clone, Copy)]
 pub struct FileHead {
     pub width: u32,
     pub blocks: u32,
@@ -19,7 +20,7 @@ pub struct FileHead {
 }
 
 // Where the five bodies begin.
-#[derive(Drop)]
+#[derive(Clone, Copy)]
 pub struct Places {
     pub setup: usize,
     pub head: usize,
@@ -29,7 +30,7 @@ pub struct Places {
 }
 
 // What reading finds.
-#[derive(Drop)]
+#[derive(Clone, Copy)]
 pub struct Found {
     pub answer: Answer,
     pub head: FileHead,

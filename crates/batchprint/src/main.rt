@@ -1,4 +1,5 @@
 // Reads a batch file from standard input, and prints its head, and the length and the digest of each of its bodies; or why it is refused.
+#![tactic(auto)]
 use libc::{STDIN_FILENO, STDOUT_FILENO};
 
 // No contract can speak of what a program reads and writes: the text is a function of the input in `filetext`.

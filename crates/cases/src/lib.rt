@@ -1,5 +1,6 @@
 // What the programs share: the lines that they print, and ranges that they derive from a seed. What a program writes no contract can
 // say; where a function has a contract, it is what its callers need to be safe.
+#![tactic(auto)]
 ghost use Rattle.std.specs.Prelude.{◌≡◌, length, get_or, set};
 ghost use Rattle.words.specs.Xor.{◌⊕◌};
 

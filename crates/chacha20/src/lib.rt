@@ -1,11 +1,12 @@
 // The ChaCha20 block function of RFC 8439: one block, and what four side by side (`chacha20_four`) are made of too.
+#![tactic(auto)]
 pub mod one;
 
 ghost use Rattle.std.specs.Prelude.{◌≡◌, ◌+◌, ◌<◌, length};
 ghost use Rattle.words.specs.Bytes.{word32};
 ghost use Rattle.chacha20.specs.ChaCha.{quarter_round, add_words};
 
-#[derive(Drop)]
+#[derive(Clone, Copy)]
 pub struct Quad {
     pub a: u32,
     pub b: u32,

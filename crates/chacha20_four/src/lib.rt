@@ -1,4 +1,5 @@
 // Four blocks side by side, so that the compiler works on four words with one instruction: word w of lane l stands at 4w + l.
+#![tactic(auto)]
 ghost use Rattle.std.specs.Prelude.{◌≡◌, ◌*◌, ◌<◌, length};
 ghost use Rattle.words.specs.Bytes.{word32};
 ghost use Rattle.words.specs.Lanes.{lane, put_lane};
@@ -6,7 +7,7 @@ ghost use Rattle.chacha20.specs.ChaCha.{double_round, double_rounds, start_of};
 ghost use Rattle.chacha20_four.specs.FourStates.{key_in, blocks_of, listed, EachLane};
 
 // One lane's state, in locals: the loop over the lanes is vectorized only if no lane is an array of its own.
-#[derive(Drop)]
+#[derive(Clone, Copy)]
 pub struct State {
     pub x0: u32,
     pub x1: u32,

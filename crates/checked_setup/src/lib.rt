@@ -1,4 +1,5 @@
 // Both checked setups, for any inputs: the plain setups' work, the proof of each tree, and the sender's check of it.
+#![tactic(auto)]
 mod receiver;
 mod sender;
 

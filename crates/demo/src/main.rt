@@ -2,6 +2,7 @@
 // beside each other: answers, the last batch number, blocks and transfers. Three batches are honest; in the fourth the receiver cheats, and
 // the fifth finds the sender's session closed. Only a demonstration has both sides' pads, and it compares every one. What a program writes
 // no contract can say, so these functions have none, or only what makes their callers safe.
+#![tactic(auto)]
 ghost use Rattle.std.specs.Prelude.{◌≡◌, ◌*◌, ◌≤◌, length};
 ghost use Rattle.sizes.specs.Sizes.{delta_length, receiver_base_pads_length, sender_base_pads_length, siblings_length, receiver_pads_length, sender_pads_length};
 
@@ -9,14 +10,14 @@ use answer::Answer;
 use libc::STDOUT_FILENO;
 
 // Two sessions, one on each side.
-#[derive(Drop)]
+#[derive(Clone, Copy)]
 struct Sessions {
     receiver: rules::Record,
     sender: rules::Record,
 }
 
 // A batch to be played: its number, blocks and key, and what is added to a byte of tree 1's correction on its way to the sender.
-#[derive(Drop)]
+#[derive(Clone, Copy)]
 struct Batch {
     number: u64,
     blocks: u32,
@@ -25,7 +26,7 @@ struct Batch {
 }
 
 // A batch that is open on both sides: what the receiver's start and the sender's correction gave.
-#[derive(Drop)]
+#[derive(Clone, Copy)]
 struct Opened {
     start: session::Stepped,
     correct: session::Stepped,

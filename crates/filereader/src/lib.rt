@@ -1,4 +1,5 @@
 // A reader over a batch file, which hands out each body as a part of the file: nothing is copied.
+#![tactic(auto)]
 ghost use Rattle.std.specs.Prelude.{◌≡◌};
 ghost use Rattle.batchfile.specs.File.{places_found};
 ghost use Rattle.filereader.specs.Reading.{PartOf, BodyPart, HandsOut, places_at, reader_over};
@@ -6,7 +7,7 @@ ghost use Rattle.filereader.specs.Reading.{PartOf, BodyPart, HandsOut, places_at
 use batchfile::Places;
 
 // The file, and where its five bodies begin.
-#[derive(Drop)]
+#[derive(Clone, Copy)]
 pub struct Reader<'a> {
     pub file: &'a [u8],
     pub setup: usize,

@@ -2,6 +2,7 @@
 // begin, and the body of every kind as it is handed out. Or it writes a file, and prints the answer and the file's digest. The records and
 // the lines to be printed are written by reference/. What a program reads and writes no contract can say, so these functions have none, or
 // only what makes their callers safe; that the lines are right is for the comparison to show.
+#![tactic(auto)]
 ghost use Rattle.std.specs.Prelude.{◌≤◌, length};
 
 use libc::STDIN_FILENO;

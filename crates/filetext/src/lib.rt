@@ -1,4 +1,5 @@
 // The text that the program batchprint prints, as a function of what it read.
+#![tactic(auto)]
 ghost use Rattle.std.specs.Prelude.{◌++◌};
 ghost use Rattle.words.specs.Pieces.{Room, Laid};
 ghost use Rattle.batchfile.specs.File.{Taken};
@@ -8,7 +9,7 @@ ghost use Rattle.filetext.specs.Text.{decimal, hex_of, head_line, digest_line, b
 use batchfile::FileHead;
 
 // The first len of the bytes.
-#[derive(Drop)]
+#[derive(Clone, Copy)]
 pub struct Text {
     pub len: usize,
     pub bytes: [u8; 512],

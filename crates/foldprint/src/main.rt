@@ -1,4 +1,5 @@
 // Reads a key and 1 to 16 words from standard input, and prints their fold, or "refused".
+#![tactic(auto)]
 use libc::{STDIN_FILENO, STDOUT_FILENO};
 
 // No contract can speak of what a program reads and writes: the line is a function of the input in `foldtext`.

@@ -1,4 +1,5 @@
 // What the host program, written in C, calls: numbers and byte ranges. include/softspoken.h declares it.
+#![tactic(auto)]
 mod numbered;
 
 ghost use Rattle.std.specs.Prelude.{◌≡◌};
@@ -123,7 +124,7 @@ pub extern "C" fn softspoken_sender_verify(
 // What reading a file gives back: the answer's number, the head's values, where each body begins, and the file's end. A body reaches from its
 // place to the next.
 #[repr(C)]
-#[derive(Drop)]
+#[derive(Clone, Copy)]
 pub struct FileRead {
     pub answer: u32,
     pub width: u32,

@@ -5,7 +5,7 @@ ghost use Rattle.session.specs.Steps.{OpenSession, ReceiverStart, SenderCorrect,
 use rules::Record;
 
 // What a step gives back: its answer's number, and the record after it.
-#[derive(Drop)]
+#[derive(Clone, Copy)]
 pub struct Outcome {
     pub number: u32,
     pub record: Record,

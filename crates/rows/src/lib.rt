@@ -2,6 +2,7 @@
 // row value that of c (paper 01: byte j div 8, weight 2^(j mod 8)). Both are carried along, weight by weight and then to the next byte, so no
 // number of a row or of a column is divided by 8 or shifted (paper 02, note 2). A word holds eight bytes of a column, the bits of 64 rows.
 // Eight such words change bits with each other, by shifts and masks, until rows stand where columns stood: first weights, then bytes.
+#![tactic(auto)]
 ghost use Rattle.std.specs.Prelude.{◌≡◌, [], ◌∷◌, ℕ, ◌+◌, ◌*◌, ◌≤◌, ◌<◌, length, set};
 ghost use Rattle.words.specs.Bytes.{concat};
 ghost use Rattle.sizes.specs.Sizes.{columns};
@@ -10,7 +11,7 @@ ghost use Rattle.rows.specs.Place.{Stands};
 ghost use Rattle.rows.specs.Gather.{Evens, Swapped, Staged, WeightsTurned, BytesTurned, column_words, side_by_side, stores, store_bytes, Gathered, RowsLaid};
 
 // Two words that changed bits.
-#[derive(Drop)]
+#[derive(Clone, Copy)]
 struct Pair {
     first: u64,
     second: u64,

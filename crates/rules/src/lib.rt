@@ -1,12 +1,13 @@
 // The rules of a session, in numbers only: its record, how a step changes it, and which batch numbers, blocks and keys are allowed. The order
 // in which each step refuses is a definition here; the crate `orders` gives the answers.
+#![tactic(auto)]
 ghost use Rattle.std.specs.Prelude.{◌≡◌};
 ghost use Rattle.rules.specs.Orders.{new_record, with_batch, without_batch, closed, blocks_allowed, batch_follows, key_usable};
 
 // The record of a session: its width, the blocks of the open batch, the last batch number (0 for none), and the stage (0 ready, 1 open,
 // 2 closed). It may hold any numbers. In this order C lays it out without a hole before its end.
 #[repr(C)]
-#[derive(Drop)]
+#[derive(Clone, Copy)]
 pub struct Record {
     pub width: u32,
     pub blocks: u32,

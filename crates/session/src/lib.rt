@@ -1,4 +1,5 @@
 // A session's steps by value: the record goes in and comes back.
+#![tactic(auto)]
 ghost use Rattle.std.specs.Prelude.{◌≡◌};
 ghost use Rattle.tree.specs.Tree.{stream_byte};
 ghost use Rattle.tree.specs.Streams.{byte_of};
@@ -9,7 +10,7 @@ use rules::Record;
 use tree::Stream;
 
 // What a step gives back: its answer, and the record after it.
-#[derive(Drop)]
+#[derive(Clone, Copy)]
 pub struct Stepped {
     pub answer: Answer,
     pub record: Record,

@@ -1,4 +1,5 @@
 // Both setups, for any inputs: the receiver's message of masked totals, and the sender's siblings.
+#![tactic(auto)]
 mod receiver;
 mod sender;
 

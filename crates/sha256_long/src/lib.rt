@@ -1,4 +1,5 @@
 // Four long messages hashed side by side. They stand in lanes, as ChaCha20 leaves them: word w of message l at 4w + l, its lowest byte first.
+#![tactic(auto)]
 ghost use Rattle.std.specs.Prelude.{◌≡◌, ℕ, ◌/◌, ◌%◌, ◌^◌, ◌<◌, length, take};
 ghost use Rattle.words.specs.Bytes.{concat};
 ghost use Rattle.words.specs.Lanes.{lane_bytes};

@@ -1,5 +1,6 @@
 // The tags of the leaves of four trees side by side: word w of lane l stands at 4w + l. Delta enters as a side for each base transfer, and
 // a side as a mask: never a branch or an address.
+#![tactic(auto)]
 ghost use Rattle.std.specs.Prelude.{◌≡◌, ℕ, ◌+◌, ◌*◌, ◌%◌, ◌^◌, ◌≤◌, ◌<◌, length, get_or, take, drop};
 ghost use Rattle.words.specs.Lanes.{lane_bytes};
 ghost use Rattle.words.specs.Xor.{xor_each};

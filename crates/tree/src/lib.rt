@@ -1,4 +1,5 @@
 // What a walk of the trees makes and adds up. Four trees go side by side: word w of lane l stands at 4w + l.
+#![tactic(auto)]
 pub mod side;
 
 ghost use Rattle.std.specs.Prelude.{◌≡◌, ◌+◌, ◌*◌, ◌%◌, ◌<◌, ◌≤◌, length, slice_index};
@@ -8,7 +9,7 @@ ghost use Rattle.tree.specs.WalkWords.{total_word, u_word, column_word};
 ghost use Rattle.tree.specs.Streams.{block_word, word_of};
 
 // What a leaf's stream is drawn by: the number of the batch.
-#[derive(Drop)]
+#[derive(Clone, Copy)]
 pub struct Stream {
     pub batch: u64,
 }

@@ -1,5 +1,6 @@
 // The digests of the sender's trees, four trees at a time, and whether they are those that were sent. Every tree is looked at before it is
 // told, and no tree is told. Delta enters as a side for each base transfer.
+#![tactic(auto)]
 ghost use Rattle.std.specs.Prelude.{◌≡◌, ℕ, ◌*◌, ◌^◌, ◌≤◌, ◌<◌, eqb, length};
 ghost use Rattle.words.specs.Bytes.{part, concat};
 ghost use Rattle.words.specs.Lanes.{lane_bytes};

@@ -1,4 +1,5 @@
 // The proofs of the receiver's trees, four trees at a time: the ⊕ of the tags of each, and their digest.
+#![tactic(auto)]
 ghost use Rattle.std.specs.Prelude.{◌≡◌, ◌++◌, ◌*◌, ◌^◌, ◌≤◌, length};
 ghost use Rattle.words.specs.Bytes.{part, concat};
 ghost use Rattle.sizes.specs.Sizes.{tree_proof_length};
