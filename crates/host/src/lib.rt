@@ -1,5 +1,7 @@
-// What the host program, written in C, calls: numbers and byte ranges. include/softspoken.h declares it.
+// What a host program calls: numbers and byte ranges. The crate host_c exports each of these functions to C, with the same clauses, and
+// include/softspoken.h declares them there.
 #![tactic(auto)]
+
 mod numbered;
 
 ghost use Rattle.std.specs.Prelude.{◌≡◌};
@@ -13,8 +15,7 @@ ghost use Rattle.host.specs.File.{file_read};
 use rules::Record;
 
 // The receiver's setup. It returns the answer's number.
-#[unsafe(no_mangle)]
-pub extern "C" fn softspoken_receiver_setup(
+pub fn softspoken_receiver_setup(
     width: u32,
     roots: &[u8],
     base_pads: &[u8],
@@ -27,8 +28,7 @@ pub extern "C" fn softspoken_receiver_setup(
 }
 
 // The sender's setup. It returns the answer's number.
-#[unsafe(no_mangle)]
-pub extern "C" fn softspoken_sender_setup(
+pub fn softspoken_sender_setup(
     width: u32,
     delta: &[u8],
     base_pads: &[u8],
@@ -42,8 +42,7 @@ pub extern "C" fn softspoken_sender_setup(
 }
 
 // Opens a session of a width on a lent record, whatever that held. It returns the answer's number.
-#[unsafe(no_mangle)]
-pub extern "C" fn softspoken_open(rec: &mut Record, width: u32) -> u32
+pub fn softspoken_open(rec: &mut Record, width: u32) -> u32
     ensures { Numbered (λ answer. OpenSession rec.old width answer rec.new) result }
 {
     let s = numbered::open(*rec, width);
@@ -52,8 +51,7 @@ pub extern "C" fn softspoken_open(rec: &mut Record, width: u32) -> u32
 }
 
 // The receiver's start on a lent record. It returns the answer's number.
-#[unsafe(no_mangle)]
-pub extern "C" fn softspoken_receiver_start(
+pub fn softspoken_receiver_start(
     rec: &mut Record,
     roots: &[u8],
     batch: u64,
@@ -70,8 +68,7 @@ pub extern "C" fn softspoken_receiver_start(
 }
 
 // The sender's correction on a lent record. It returns the answer's number.
-#[unsafe(no_mangle)]
-pub extern "C" fn softspoken_sender_correct(
+pub fn softspoken_sender_correct(
     rec: &mut Record,
     siblings: &[u8],
     delta: &[u8],
@@ -88,8 +85,7 @@ pub extern "C" fn softspoken_sender_correct(
 }
 
 // The receiver's answer on a lent record. It returns the answer's number.
-#[unsafe(no_mangle)]
-pub extern "C" fn softspoken_receiver_answer(
+pub fn softspoken_receiver_answer(
     rec: &mut Record,
     key: u64,
     choices: &[u8],
@@ -105,8 +101,7 @@ pub extern "C" fn softspoken_receiver_answer(
 }
 
 // The sender's verify on a lent record. It returns the answer's number.
-#[unsafe(no_mangle)]
-pub extern "C" fn softspoken_sender_verify(
+pub fn softspoken_sender_verify(
     rec: &mut Record,
     key: u64,
     table: &[u8],
@@ -139,8 +134,7 @@ pub struct FileRead {
 }
 
 // Reads a batch on file, whatever it holds. Nothing of it is copied.
-#[unsafe(no_mangle)]
-pub extern "C" fn softspoken_file_read(file: &[u8]) -> FileRead
+pub fn softspoken_file_read(file: &[u8]) -> FileRead
     ensures { result ≡ file_read file.now }
 {
     let found = batchfile::find(file);
@@ -162,8 +156,7 @@ pub extern "C" fn softspoken_file_read(file: &[u8]) -> FileRead
 }
 
 // Writes a batch to a file. It returns the answer's number.
-#[unsafe(no_mangle)]
-pub extern "C" fn softspoken_file_write(
+pub fn softspoken_file_write(
     width: u32,
     blocks: u32,
     batch: u64,
