@@ -49,7 +49,7 @@ wrong = 0
 for data, first in cases():
     text = file.batchprint(data)
     assert text.split("\n")[0] == first
-    printed = subprocess.run([ROOT / "target/bin/batchprint"], input=data, stdout=subprocess.PIPE).stdout
+    printed = subprocess.run([ROOT / "build/batchprint"], input=data, stdout=subprocess.PIPE).stdout
     if printed != text.encode():
         wrong += 1
         print("batchprint: %d bytes gave %r, not %r" % (len(data), printed, text))

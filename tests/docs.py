@@ -92,7 +92,7 @@ def check_answers(page):
 def check_crates(page):
     """The crates are those in the layers, whose lines are indented and end with what they say, and those in the table."""
     text = page.read_text()
-    listed = set(re.findall(r"^(\w+):", (ROOT / "crates.txt").read_text(), re.M))
+    listed = set(re.findall(r"^(\w+)(?: \w+)*:", (ROOT / "crates.txt").read_text(), re.M))
     layers = {name for line in re.findall(r"^    (\w.*)$", text, re.M) for name in re.split(r" {2,}", line)[:-1]}
     rows = {name for row in re.findall(r"^\| ((?:`\w+`(?:, )?)+) \|", text, re.M) for name in re.findall(r"\w+", row)}
     for crate in sorted(listed | layers | rows):

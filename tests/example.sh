@@ -43,7 +43,7 @@ expect() {
 }
 
 # what batchprint says of the file that was kept, but for the digests
-lengths() { target/bin/batchprint <"$out/file" | sed 's/ sha256 [0-9a-f]\{64\}$//'; }
+lengths() { build/batchprint <"$out/file" | sed 's/ sha256 [0-9a-f]\{64\}$//'; }
 
 # builds both examples by a compiler and its flags, which runs elsewhere
 build() {

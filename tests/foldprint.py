@@ -14,7 +14,7 @@ rng = random.Random(64)
 wrong = 0
 for length in [0, 1, 7, 8, 9, 15, 17, 135, 137, 143, 144, 4096, 1000000] + list(range(16, 137, 8)):
     data = rng.randbytes(length)
-    printed = subprocess.run([ROOT / "target/bin/foldprint"], input=data, stdout=subprocess.PIPE).stdout
+    printed = subprocess.run([ROOT / "build/foldprint"], input=data, stdout=subprocess.PIPE).stdout
     if printed != gf64.foldprint(data).encode():
         wrong += 1
         print("foldprint: %d bytes gave %r" % (length, printed))

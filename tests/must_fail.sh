@@ -1,18 +1,30 @@
 #!/usr/bin/env bash
-# A must-fail edit is worth something only where a fact no longer holds. A refusal that names a missing `Need-..` shows that the edit
-# changed the code's shape, so that its proof no longer fits whatever the code does; one that names a word out of scope shows an edit
-# that says nothing.
+# A must-fail edit is worth something only where a fact no longer holds. What rt ci said of each is read from its output, since it keeps no
+# more. It passes where an edit could not be applied, compiled or read (a bad edit), and where the only errors are that proof files name what
+# the edit took away: that shows that the edit changed the code's shape, so that its proof no longer fits whatever the code does.
+#
+#   tests/must_fail.sh LOG    the output of rt ci, or of rt must-fail
 set -eu
+log=$(realpath -e "$1")
 cd "$(dirname "$0")/.."
-edits=$(ls crates/*/must-fail/*.edit | wc -l)
-logs=$(ls target/must-fail/*/*/.log | wc -l)
-if [ "$edits" != "$logs" ]; then
-    echo "must-fail: $edits edits, and logs of $logs"
+told=$(grep '^rt: must-fail ' "$log" || true)
+
+# the edits that are told as refused, each on a line of its own, are those that there are
+refused=$(sed -n 's|^rt: must-fail \([^/]*\)/\([^ ]*\): refused, as it must be.*|crates/\1/must-fail/\2|p' <<<"$told" | sort)
+if ! diff <(ls crates/*/must-fail/*.edit | sort) <(echo "$refused"); then
+    echo "must-fail: edits that are not told as refused (<), or are told as refused and not there (>)"
     exit 1
 fi
-unfit=$(grep -l -e 'has no `Need-' -e 'is not in scope' target/must-fail/*/*/.log || true)
+bad=$(sed -n 's/^rt: ok; .*must-fail edits: [^;]*, \([1-9][0-9]*\) bad;.*/\1/p' "$log")
+if [ -n "$bad" ]; then
+    echo "must-fail: bad edits: $bad"
+    exit 1
+fi
+unfit=$(grep -e '(only because a proof file names what the edit took away' -e 'has no `' -e 'has no field' -e 'is not in scope' <<<"$told" || true)
 if [ -n "$unfit" ]; then
     echo "must-fail edits that are not refused for a fact:"
     echo "$unfit"
     exit 1
 fi
+grep '(only by a limit of the prover' <<<"$told" || true
+echo "must-fail: $(wc -l <<<"$refused") edits, each refused for a fact that no longer holds"

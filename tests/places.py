@@ -23,8 +23,8 @@ PLACE = "let mut from = at;"
 def code(text):
     """The lines of code, without comments, contracts and what only contracts use."""
     text = re.sub(r"//.*", "", text)
-    text = re.sub(r"^\s*(?:requires|ensures) \{.*\}$", "", text, flags=re.M)
-    return [line.strip() for line in text.splitlines() if line.strip() and not line.startswith("ghost use")]
+    text = re.sub(r"^\s*(?:requires|ensures)(?: \w+)? \{.*\}$", "", text, flags=re.M)
+    return [line.strip() for line in text.splitlines() if line.strip() and not line.startswith(("ghost use", "#!["))]
 
 
 def faults(text):

@@ -11,8 +11,8 @@ ROOT = pathlib.Path(__file__).resolve().parent.parent
 PROMISES = [("setup", "Setup"), ("session", "Steps"), ("answer", "Answer"), ("filereader", "Reading"), ("filewriter", "Write"), ("host", "File")]
 DEMANDS = [("theorems", "Demand1"), ("theorems", "Demand2"), ("theorems", "Demand3")]
 NOTES = [("rows", "Place"), ("theorems", "OldBatches"), ("filewriter", "RoundTrip")]
-# what `declared` holds is made from the structs and enums of src/
-IMPORT = re.compile(r"^use Rattle·(\w+?)(?:·specs)?\.specs\.(?!declared)(\w+)", re.M)
+# std has the words of the language, and what `declared` holds is made from the structs and enums of src/
+IMPORT = re.compile(r"^use Rattle\.(?!std\.)(\w+)\.specs\.(?!declared)(\w+)", re.M)
 
 
 def definitions(path):
@@ -35,13 +35,14 @@ def believed():
 
 def library():
     """The crates that the exported functions are built of."""
-    needs = dict(line.split(":") for line in (ROOT / "crates.txt").read_text().splitlines() if ":" in line)
-    found, todo = [], ["host"]
+    lines = [line.split(":") for line in (ROOT / "crates.txt").read_text().splitlines() if ":" in line]
+    needs = {kind.split()[0]: below.split() for kind, below in lines}
+    found, todo = [], ["host_c"]
     while todo:
         crate = todo.pop()
-        if crate not in found:
+        if crate in needs and crate not in found:
             found.append(crate)
-            todo += needs[crate].split()
+            todo += needs[crate]
     return sorted(found)
 
 
