@@ -146,9 +146,9 @@ module _ {M : Type 1} {𝓤 : Ura M} (𝓛 : Logic 𝓤) (𝓣 : Tables 𝓤 �
       (λ x are. walk 𝓛 x.0.0 x.1.0 x.3.0 x.3.1.0 𝓣.C 𝓣.Λ (fm_of 𝓤 H 𝓛.laws 𝓣) known
       ((LL.lawful (D x.0.0) (L x.0.0) 𝓛).typed x.3.0 _ are.0) are.0 are.1.0)
 
-pub body-spec : {M : Type 1} → statement M
+pub body_spec : {M : Type 1} → statement M
 unfolding code.routine tables_of
-body-spec 𝓤 𝓛 𝓜 𝓡 =
+body_spec 𝓤 𝓛 𝓜 𝓡 =
     entered 𝓤 𝓛.H (Promises 𝓛 this.ended φ) (tables 𝓤 𝓛.H 𝓜 𝓡 code.env).C (tables 𝓤 𝓛.H 𝓜 𝓡 code.env).Λ name code.function (code.unfolded 𝓤 𝓛.H 𝓜 𝓡)
     (body-meets 𝓛 (tables_of 𝓤 𝓛.H 𝓜 (tables 𝓤 𝓛.H 𝓜 𝓡 code.env))
     (cited 𝓤 𝓛.H (Promises 𝓛 callee.ended ψ) 𝓜 𝓡 code.env callee-code.name callee-code.routine code.calls-filereader::body-at (Callee-met.met 𝓤 𝓛 𝓜 𝓡)))

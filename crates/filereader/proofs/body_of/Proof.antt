@@ -128,9 +128,9 @@ module _ {M : Type 1} {𝓤 : Ura M} (𝓛 : Logic 𝓤) (𝓣 : Tables 𝓤 �
       (λ κs. (shr_slice_Tells (named 0) κs.0 u8, (uint_Tells w32, tt)))
       (λ x are. walk 𝓛 x.0.0 x.1.0 x.3.0 x.3.1.0 𝓣.C 𝓣.Λ (fm_of 𝓤 H 𝓛.laws 𝓣) known_read known-body are.0 are.1.0)
 
-pub body-of-spec : {M : Type 1} → statement M
+pub body_of_spec : {M : Type 1} → statement M
 unfolding code.routine tables_of
-body-of-spec 𝓤 𝓛 𝓜 𝓡 =
+body_of_spec 𝓤 𝓛 𝓜 𝓡 =
     entered 𝓤 𝓛.H (Promises 𝓛 this.ended φ) (tables 𝓤 𝓛.H 𝓜 𝓡 code.env).C (tables 𝓤 𝓛.H 𝓜 𝓡 code.env).Λ name code.function (code.unfolded 𝓤 𝓛.H 𝓜 𝓡)
     (body-of-meets 𝓛 (tables_of 𝓤 𝓛.H 𝓜 (tables 𝓤 𝓛.H 𝓜 𝓡 code.env))
     (cited 𝓤 𝓛.H (Promises 𝓛 reads.ended χ) 𝓜 𝓡 code.env read-code.name read-code.routine code.calls-filereader::read (read-met.met 𝓤 𝓛 𝓜 𝓡))

@@ -39,9 +39,9 @@ use Rattle.filereader.specs.Reading.{reader_at, reader_over}
 use Rattle.filereader.proofs.Promise.{Fact, Promises, Asked, Token, Returned, calls, ends, meets}
 use Rattle.filereader.specs.contracts.Reader as T
 use Rattle.filereader.proofs.Reader.TheLaws as T'
-use Rattle.filereader.specs.contracts.find_places as callee
-use Rattle.filereader.proofs.find_places.Met as Callee-met
-use Rattle.filereader.proofs.find_places.Symbol as callee-code
+use Rattle.filereader.specs.contracts.find_places-at as callee
+use Rattle.filereader.proofs.find_places-at.Met as Callee-met
+use Rattle.filereader.proofs.find_places-at.Symbol as callee-code
 use Rattle.filereader.specs.contracts.read as this
 use Rattle.filereader.proofs.read.Code as code
 use Rattle.filereader.specs.contracts.read.Key.{name}
