@@ -40,12 +40,12 @@ room c = room_as (text c) c.before.before.before.before.before.before.requires
 -- ---- and where it isn't
 
 refusal : (c : tie.After-number_of)
-    → text_of c.before.before.before.before.before.before.before.before.args.input.now ≡ refused_line c.number_of_lem.result
+    → text_of c.before.before.before.before.before.before.before.before.args.input.now ≡ refused_line c.number_of.result
 refusal c =
     let e = c.before.before in
     text-refused e.before.before.before.before.before.before.args.input.now (omega arith)
     (sym (done e.before) ∙ e.if-is_done.false)
-    ∙ ap refused_line (ap number (sym e.before.before.find-found.ensures.answered) ∙ sym c.number_of_lem.ensures)
+    ∙ ap refused_line (ap number (sym e.before.before.find-found.ensures.answered) ∙ sym c.number_of.ensures)
 
 lay-requires : tie.Need-lay-requires
 lay-requires c κs = room_as (text-long _ c.before.before.if-input-gt-LONGEST_FILE.true) c.before.before.before.before.before.requires

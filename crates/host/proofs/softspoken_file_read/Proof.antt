@@ -36,8 +36,8 @@ returns : tie.Need-returns
 returns c =
     let file = c.before.before.before.before.before.args.file.now in
     let found = c.before.before.before.find-found.ensures in
-    ap₂ (λ (h : FileHead) (p : Places). over c.number_of_lem.result h p (length file)) found.headed found.placed
-    ∙ ap (λ (n : ℕ). over n (head_found file) (places_found file) (length file)) (c.number_of_lem.ensures ∙ ap number found.answered)
+    ap₂ (λ (h : FileHead) (p : Places). over c.number_of.result h p (length file)) found.headed found.placed
+    ∙ ap (λ (n : ℕ). over n (head_found file) (places_found file) (length file)) (c.number_of.ensures ∙ ap number found.answered)
 
 pub softspoken_file_read_spec : {M : Type 1} → statement M
 softspoken_file_read_spec = tie.close (tie.spec find-requires number-of-requires returns)

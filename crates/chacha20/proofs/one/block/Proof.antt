@@ -39,7 +39,7 @@ returns : tie.Need-returns
 unfolding block_of block_words
 returns c =
     let started = c.before.before.before.before.before.before.before.before.before.before.start-s.ensures in
-    c.before.store_words_lem.ensures
+    c.before.store_words.ensures
     ∙ ap bytes_of_words
     (c.before.before.before.before.before.add_words.ensures ∙ ap₂ add_words (c.before.before.before.before.before.before.before.before.rounds.ensures ∙ ap (double_rounds 10) started) started)
 
