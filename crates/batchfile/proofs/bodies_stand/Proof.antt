@@ -43,7 +43,7 @@ returns c =
     let a = c.before.before.before.before.before.before.args in
     let file = a.file.now in
     let w = c.before.before.before.loop-e in
-    let wrong = sym c.before.entry_right.ensures ∙ not-true _ c.if-not-entry_right.true in
+    let wrong = sym c.before.entry_right.ensures ∙ c.if-not-entry_right.true in
     sym
     (ap (λ (b : Bool). b && eqb (place_at file a.n) (length file))
     (one-fails a.n (entry_right file) w.e c.before.before.loop-e-test.true wrong))
@@ -68,7 +68,7 @@ loop-again c =
     let a = c.before.before.before.before.before.before.before.args in
     let file = a.file.now in
     let w = c.before.before.before.before.loop-e in
-    let good = sym c.before.before.entry_right.ensures ∙ not-false _ c.before.if-not-entry_right.false in (
+    let good = sym c.before.before.entry_right.ensures ∙ c.before.if-not-entry_right.false in (
       omega arith,
       omega (arith, place-more file w.e, w.invariant.1, c.field-place.ensures.0),
       every_more w.e (entry_right file) ∙ (and-eq-true_iff (every w.e (entry_right file)) (entry_right file w.e)).1 (w.invariant.2, good),

@@ -16,7 +16,7 @@ use Rattle.batchfile.proofs.find.Tie as tie
 
 -- once the entries are counted, the contents are right
 stands : (c : tie.After-count-n) → contents_right c.before.before.before.before.args.file.now ≡ true
-stands c = sym c.before.before.contents_right.ensures ∙ not-false _ c.before.if-not-contents_right.false
+stands c = sym c.before.before.contents_right.ensures ∙ c.before.if-not-contents_right.false
 
 -- the test of the head is that of its body's length
 measured : (c : tie.After-head_right) → head_right (length (body_of c.before.before.before.before.before.before.args.file.now 2)) ≡ c.head_right.result
@@ -26,21 +26,21 @@ measured c = sym (c.head_right.ensures ∙ ap head_right c.before.length_of.ensu
 answered : (c : tie.After-values_answer-answer) → c.values_answer-answer.result ≡ read_answer c.before.before.before.before.before.before.before.before.before.args.file.now
 answered c =
     c.values_answer-answer.ensures
-    ∙ sym (values-next c.before.before.before.before.before.before.before.before.before.args.file.now (stands c.before.before.before.before.before) (measured c.before.before.before ∙ not-false _ c.before.before.if-not-head_right.false))
+    ∙ sym (values-next c.before.before.before.before.before.before.before.before.before.args.file.now (stands c.before.before.before.before.before) (measured c.before.before.before ∙ c.before.before.if-not-head_right.false))
 
 contents-right-requires : tie.Need-contents_right-requires
 contents-right-requires c κs = search rules
 
 refused-requires : tie.Need-refused-requires
 refused-requires c κs =
-    (sym (contents-first c.before.before.before.args.file.now (sym c.before.contents_right.ensures ∙ not-true _ c.if-not-contents_right.true)), refl)
+    (sym (contents-first c.before.before.before.args.file.now (sym c.before.contents_right.ensures ∙ c.if-not-contents_right.true)), refl)
 
 returns : tie.Need-returns-then-not-contents_right
 returns c = search rules
 
 count-requires : tie.Need-count-n-requires
 count-requires c κs =
-    let n = (standing c.before.before.before.args.file.now (sym c.before.contents_right.ensures ∙ not-false _ c.if-not-contents_right.false)).counts in
+    let n = (standing c.before.before.before.args.file.now (sym c.before.contents_right.ensures ∙ c.if-not-contents_right.false)).counts in
     omega (arith, n.fits)
 
 length-of-requires : tie.Need-length_of-requires
@@ -51,14 +51,14 @@ head-right-requires c κs = search rules
 
 refused-requires-2 : tie.Need-refused-requires-then-not-head_right
 refused-requires-2 c κs =
-    (sym (head-next c.before.before.before.before.before.before.before.args.file.now (stands c.before.before.before) (measured c.before ∙ not-true _ c.if-not-head_right.true)), refl)
+    (sym (head-next c.before.before.before.before.before.before.before.args.file.now (stands c.before.before.before) (measured c.before ∙ c.if-not-head_right.true)), refl)
 
 returns-2 : tie.Need-returns-then-not-head_right
 returns-2 c = search rules
 
 head-of-requires : tie.Need-head_of-head-requires
 head-of-requires c κs =
-    (stands c.before.before.before, c.before.before.before.count-n.ensures, measured c.before ∙ not-false _ c.if-not-head_right.false)
+    (stands c.before.before.before, c.before.before.before.count-n.ensures, measured c.before ∙ c.if-not-head_right.false)
 
 values-answer-requires : tie.Need-values_answer-answer-requires
 values-answer-requires c κs = (stands c.before.before.before.before, c.before.before.before.before.count-n.ensures, c.head_of-head.ensures)

@@ -30,12 +30,12 @@ unfolding blocks_of block_words
 returns c =
     let s = c.before.before.before.before.before.before.start-s in
     let t = c.before.before.before.before.rounds in
-    let same : length t.new.0 ≡ length s.result = t.ensures.long ∙ sym s.ensures.long in
+    let same : length t.new.t ≡ length s.result = t.ensures.long ∙ sym s.ensures.long in
     let added = c.before.add_words.ensures in
-    laned-is 16 _ _ (ap length added ∙ add_words-length t.new.0 s.result same ∙ t.ensures.long)
+    laned-is 16 _ _ (ap length added ∙ add_words-length t.new.t s.result same ∙ t.ensures.long)
     (λ l h.
     ap (lane l 16) added
-    ∙ lane-add l 0 16 t.new.0 s.result same
+    ∙ lane-add l 0 16 t.new.t s.result same
     ∙ ap₂ add_words (t.ensures.at l h ∙ ap (double_rounds 10) (s.ensures.at l h)) (s.ensures.at l h))
 
 pub block_spec : {M : Type 1} → statement M

@@ -35,7 +35,7 @@ loop-less c = search rules
 
 loop-again : tie.Need-loop-l-preserved invariant-loop decreases-loop
 loop-again c =
-    let w = c.before.before.before.before.before.before.loop-l in (
+    let w = c.before.before.before.before.before.loop-l in (
       search rules,
       filled_more 16 _ w.l _ w.t _ (listed c.before.double_lane.result) (omega arith) refl
           (c.before.double_lane.ensures ∙ ap double_round (c.before.before.before.get-s.ensures ∙ w.invariant.1.rest w.l (omega arith) (omega arith)))

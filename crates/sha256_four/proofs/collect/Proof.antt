@@ -48,7 +48,7 @@ loop-again c =
     let t = c.before.before.before.before.before.before.before.args.t.now in
     let f = c.before.before.before.finish in (
       search rules,
-      c.before.copy_part.auto.0 ∙ v.invariant.1,
+      c.before.copy_part.auto.dst ∙ v.invariant.1,
       c.before.copy_part.ensures
           ∙ ap (λ (o : List ℕ). put o (32 * v.l) f.result) v.invariant.2
           ∙ concat-more (λ l. digest_in l t) (λ l. digest_in-length l t) v.l f.result (omega arith) f.ensures,

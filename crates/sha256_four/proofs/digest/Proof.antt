@@ -25,7 +25,7 @@ collect-requires c κs = search rules
 
 returns : tie.Need-returns
 returns c =
-    let m = c.before.before.before.before.before.before.before.args.t1 in
+    let m = c.before.before.before.before.before.before.before.args.m in
     let len : length m ≡ 128 = search rules in
     c.collect.ensures
     ∙ ap (λ (t : List ℕ). concat 4 (λ l. digest_in l t)) (c.before.before.rounds-t.ensures ∙ ap (rounds_in_lanes 64) c.before.before.before.before.before.schedule-w.ensures)

@@ -40,8 +40,8 @@ loop-less c = search rules
 
 loop-again : tie.Need-loop-l-preserved invariant-loop decreases-loop
 loop-again c =
-    let v = c.before.before.before.before.before.before.loop-l in
-    let a = c.before.before.before.before.before.before.before.args in
+    let v = c.before.before.before.before.before.loop-l in
+    let a = c.before.before.before.before.before.before.args in
     let g = c.before.before.before.get-s in
     let d = c.before.four_rounds in
     let made : d.result ≡ four_rounds a.i (schedule_in v.l a.w.now) (work_of (lane v.l 8 a.t.now)) =
@@ -49,7 +49,7 @@ loop-again c =
     ∙ ap (four_rounds a.i (schedule_in v.l a.w.now))
     (g.ensures ∙ ap work_of (v.invariant.1.rest v.l (omega arith) (omega arith))) in (
       search rules,
-      filled_more 8 (after a.i a.w.now a.t.now) v.l a.t.now v.t c.put.new.0 (words_of d.result) (omega arith) refl
+      filled_more 8 (after a.i a.w.now a.t.now) v.l a.t.now v.t c.put.new.t (words_of d.result) (omega arith) refl
           (ap words_of made)
           c.put.ensures
           v.invariant.1,
