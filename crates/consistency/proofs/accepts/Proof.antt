@@ -40,19 +40,19 @@ fold-columns-requires c κs =
     (s.requires.0, s.requires.2, cut-length (8 * s.args.m) 1024 few)
 
 -- the folds that are lent again
-held : (c : tie.After-fold_columns) → length c.fold_columns.new.1.1.1.1.0 ≡ 8 * (entry c).args.m
+held : (c : tie.After-fold_columns) → length c.fold_columns.new.out ≡ 8 * (entry c).args.m
 held c =
     let s = entry c in
     let few : 8 * s.args.m ≤ 1024 = omega (arith, s.requires.1) in
-    c.fold_columns.auto.1.1.1.1.0 ∙ cut-length (8 * s.args.m) 1024 few
+    c.fold_columns.auto.out ∙ cut-length (8 * s.args.m) 1024 few
 
 lent : (c : tie.After-fold_columns)
     → (let size : ℕ = 8 * (entry c).args.m in
-    take (size - 0) (c.fold_columns.new.1.1.1.1.0 ++ drop (size - 0) (replicate 1024 0)) ≡ c.fold_columns.new.1.1.1.1.0)
+    take (size - 0) (c.fold_columns.new.out ++ drop (size - 0) (replicate 1024 0)) ≡ c.fold_columns.new.out)
 lent c =
     let size : ℕ = 8 * (entry c).args.m in
     let none : size ≡ size - 0 = omega arith in
-    take_at c.fold_columns.new.1.1.1.1.0 (drop (size - 0) (replicate 1024 0)) (size - 0) (held c ∙ none)
+    take_at c.fold_columns.new.out (drop (size - 0) (replicate 1024 0)) (size - 0) (held c ∙ none)
 
 sub-all-equal : tie.Need-slice_bounds-all_equal-count
 sub-all-equal c = omega arith
@@ -65,7 +65,7 @@ part-all-equal-end c =
     let s = entry c.before.before in
     let folded = c.before.before.fold_columns in
     let size : ℕ = 8 * s.args.m in
-    let long = same_len_mid 0 (size - 0) (replicate 1024 0) folded.new.1.1.1.1.0 folded.auto.1.1.1.1.0 in
+    let long = same_len_mid 0 (size - 0) (replicate 1024 0) folded.new.out folded.auto.out in
     omega (arith, s.requires.1, long, length-replicate {A = ℕ} 1024 0)
 
 all-equal-requires : tie.Need-all_equal-requires

@@ -39,7 +39,7 @@ fold-columns-requires c κs =
     let s = c.before.before.before.before.before.before.before.before.before.before.before in
     let stored = c.before.before.before.before.before.store64 in
     let m = s.args.m in
-    (s.requires.0, s.requires.1, mid_len 8 (8 + 8 * m) stored.new.0 (omega (arith, stored.auto.0, s.requires.2)) ∙ omega arith)
+    (s.requires.0, s.requires.1, mid_len 8 (8 + 8 * m) stored.new.dst (omega (arith, stored.auto.dst, s.requires.2)) ∙ omega arith)
 
 same_length : tie.Need-shape_of-message
 same_length c = search rules

@@ -14,7 +14,7 @@ abbrev left : List ℕ → List ℕ
 left body = named " length " (length body) ++ digest_line body
 
 room : (c : tie.After-lay_named-next)
-    → Room c.lay_named-next.new.0 c.lay_named-next.result (left c.before.before.before.before.before.args.body.now)
+    → Room c.lay_named-next.new.out c.lay_named-next.result (left c.before.before.before.before.before.args.body.now)
 unfolding body_line
 room c = room_next c.before.before.before.before.before.requires c.lay_named-next.ensures
 

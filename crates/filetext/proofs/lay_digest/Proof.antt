@@ -15,7 +15,7 @@ abbrev left : List ℕ → List ℕ
 left digest = hex_of digest ++ codes "\n"
 
 room : (c : tie.After-digest)
-    → Room c.before.before.before.before.lay-next.new.0 c.before.before.before.before.lay-next.result (left c.digest.result)
+    → Room c.before.before.before.before.lay-next.new.out c.before.before.before.before.lay-next.result (left c.digest.result)
 unfolding digest_line
 room c =
     let name = c.before.before.before.before in

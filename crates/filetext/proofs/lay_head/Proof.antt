@@ -17,12 +17,12 @@ abbrev after_width : FileHead → List ℕ
 after_width head = named " blocks " head.blocks ++ after_blocks head
 
 room-blocks : (c : tie.After-lay_named-next)
-    → Room c.lay_named-next.new.0 c.lay_named-next.result (after_width c.before.before.before.before.before.args.head)
+    → Room c.lay_named-next.new.out c.lay_named-next.result (after_width c.before.before.before.before.before.args.head)
 unfolding head_line
 room-blocks c = room_next c.before.before.before.before.before.requires c.lay_named-next.ensures
 
 room-batch : (c : tie.After-lay_named-next-2)
-    → Room c.lay_named-next-2.new.0 c.lay_named-next-2.result
+    → Room c.lay_named-next-2.new.out c.lay_named-next-2.result
     (after_blocks c.before.before.before.before.before.before.before.before.before.before.before.args.head)
 room-batch c = room_next (room-blocks c.before.before.before.before.before.before) c.lay_named-next-2.ensures
 

@@ -27,12 +27,12 @@ decreases-loop file₀ n lengths at₀ place₀ e₀ file at place e = n - e
 -- the count is laid, and the entries have room after it
 counted : (c : tie.After-lay-at invariant-loop decreases-loop)
     → Laid c.before.before.before.before.before.args.file.now 0 (bytes 4 c.before.before.before.before.before.args.n)
-    c.lay-at.new.0 c.lay-at.result
+    c.lay-at.new.out c.lay-at.result
 counted c = laid_as c.before.before.bytes32.ensures c.lay-at.ensures
 
 room : (c : tie.After-lay-at invariant-loop decreases-loop)
     → let a = c.before.before.before.before.before.args in
-    Room c.lay-at.new.0 c.lay-at.result (concat a.n (entries a.n a.t3))
+    Room c.lay-at.new.out c.lay-at.result (concat a.n (entries a.n a.t3))
 room c = room_next c.before.before.before.before.before.requires.0 (counted c)
 
 cast-bytes32 : tie.Need-overflow_cast-n invariant-loop decreases-loop

@@ -45,22 +45,22 @@ room-contents c =
 
 room-setup : (c : tie.After-lay_contents-at)
     → let s = c.before.before.before.before.before.before.before.before in
-    Room c.lay_contents-at.new.0 c.lay_contents-at.result (joined (head s) (bodies s))
+    Room c.lay_contents-at.new.file c.lay_contents-at.result (joined (head s) (bodies s))
 room-setup c = room_next (room-contents c.before) c.lay_contents-at.ensures
 
 room-head : (c : tie.After-lay-at)
     → let s = c.before.before.before.before.before.before.before.before.before.before.before.before in
-    Room c.lay-at.new.0 c.lay-at.result (head s ++ ((bodies s).correction ++ ((bodies s).key ++ (bodies s).check)))
+    Room c.lay-at.new.out c.lay-at.result (head s ++ ((bodies s).correction ++ ((bodies s).key ++ (bodies s).check)))
 room-head c = room_next (room-setup c.before.before.before.before) c.lay-at.ensures
 
 room-correction : (c : tie.After-lay_head-at)
     → let s = c.before.before.before.before.before.before.before.before.before.before.before.before.before.before.before.before in
-    Room c.lay_head-at.new.0 c.lay_head-at.result ((bodies s).correction ++ ((bodies s).key ++ (bodies s).check))
+    Room c.lay_head-at.new.file c.lay_head-at.result ((bodies s).correction ++ ((bodies s).key ++ (bodies s).check))
 room-correction c = room_next (room-head c.before.before.before.before) c.lay_head-at.ensures
 
 room-key : (c : tie.After-lay-at-2)
     → let s = c.before.before.before.before.before.before.before.before.before.before.before.before.before.before.before.before.before.before.before.before in
-    Room c.lay-at-2.new.0 c.lay-at-2.result ((bodies s).key ++ (bodies s).check)
+    Room c.lay-at-2.new.out c.lay-at-2.result ((bodies s).key ++ (bodies s).check)
 room-key c = room_next (room-correction c.before.before.before.before) c.lay-at-2.ensures
 
 entries-with-requires : tie.Need-entries_with-requires

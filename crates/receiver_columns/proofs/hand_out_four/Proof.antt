@@ -65,8 +65,8 @@ loop-again c =
     let fits : (s.args.i + 4) * m ≤ length xs = omega (arith, length-append s.args.choices.now s.args.correction.now, s.requires, add-mul s.args.i 4 m, add-mul s.args.i 3 m) in
     record {
       low = omega (arith, call.before.before.before.loop-l-test.true);
-      choices-long = call.hand_out.auto.1.1.1.0 ∙ w.invariant.choices-long;
-      correction-long = call.hand_out.auto.1.1.1.1.0 ∙ w.invariant.correction-long;
+      choices-long = call.hand_out.auto.choices ∙ w.invariant.choices-long;
+      correction-long = call.hand_out.auto.correction ∙ w.invariant.correction-long;
       laid = handed-next f m w.l s.args.i xs (w.choices ++ w.correction) _ (λ l. lane_bytes-length l (m / 4) u ∙ omega (arith, s.requires)) fits
           call.before.before.before.loop-l-test.true w.invariant.laid call.hand_out.ensures;
     }

@@ -19,8 +19,8 @@ returns c =
     let laid = c.before.before.lay in
     let w = c.before.before.before.before.before.gather-w in
     let s = c.before.before.before.before.before.before.before.before in
-    λ j. rows_are s.args.table.now w.result laid.new.1.0 s.args.len s.args.at j w.ensures laid.ensures
-    (laid.auto.1.0 ∙ s.requires.3) (λ i. (c.slice_known-2-1.given i).fits)
+    λ j. rows_are s.args.table.now w.result laid.new.rows s.args.len s.args.at j w.ensures laid.ensures
+    (laid.auto.rows ∙ s.requires.3) (λ i. (c.slice_known-2-1.given i).fits)
 
 pub block_rows_spec : {M : Type 1} → statement M
 block_rows_spec = tie.close (tie.spec gather-requires lay-requires same_length returns)

@@ -69,7 +69,7 @@ loop-again c =
       low = search rules;
       long = ap length c.put_words.ensures ∙ words-length 8 h.w h.byte v'.result (omega arith) taken h.invariant.long;
       place = ap (λ (x : ℕ). x + 8 * a.len) h.invariant.place ∙ step-on (8 * a.len) a.at h.byte;
-      turned = words_more (Turned a.table.now a.len a.at) h.w c.put_words.new.0 h.byte v'.result taken h.invariant.long c.put_words.ensures
+      turned = words_more (Turned a.table.now a.len a.at) h.w c.put_words.new.w h.byte v'.result taken h.invariant.long c.put_words.ensures
           (turned-words a.table.now v.result v'.result a.len a.at h.byte h.from h.invariant.place v.ensures v'.ensures)
           h.invariant.turned;
     }

@@ -54,7 +54,7 @@ loop-again c =
     record {
       low = search rules;
       long = ap length put.ensures ∙ bytes-length 8 h.rows h.i v'.result (omega arith) taken h.invariant.long;
-      laid = bytes-more (LaidByte w) h.rows put.new.0 h.i v'.result taken h.invariant.long put.ensures
+      laid = bytes-more (LaidByte w) h.rows put.new.rows h.i v'.result taken h.invariant.long put.ensures
           (laid-words w v'.result h.i (subst (λ (l : List ℕ). BytesTurned l v'.result) v.ensures v'.ensures))
           h.invariant.laid;
     }

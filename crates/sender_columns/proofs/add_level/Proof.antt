@@ -90,7 +90,7 @@ added : (c : tie.After-add_where)
     → let s = entry (at-sides c) in
     let n = length s.args.u.now in
     let at = (s.args.k - 1 - s.args.level) * n in
-    let v' = put_mid at (at + n - at) s.args.v.now c.add_where.new.0 in
+    let v' = put_mid at (at + n - at) s.args.v.now c.add_where.new.v in
     (v' ≡ xor_part s.args.v.now at n (of_side s.args.k s.args.level s.args.sides.now s.args.u.now)) × (length v' ≡ length s.args.v.now)
 added c =
     let s = entry (at-sides c) in
@@ -122,10 +122,10 @@ walked : (c : tie.After-walk)
     let r = s.args.k - 1 - s.args.level in
     let nodes = part (32 * s.args.level) 32 s.args.s.now in
     let v = xor_part s.args.v.now (r * length u) (length u) (of_side s.args.k s.args.level s.args.sides.now u) in
-    (c.walk.new.1.1.1.0 ≡ xor_each u (u_word (word_of s.args.stream) r nodes))
-    × (length c.walk.new.1.1.1.0 ≡ length u)
-    × (c.walk.new.1.1.1.1.0 ≡ xor_each v (column_word (word_of s.args.stream) (length u) r nodes))
-    × (length c.walk.new.1.1.1.1.0 ≡ length s.args.v.now)
+    (c.walk.new.u ≡ xor_each u (u_word (word_of s.args.stream) r nodes))
+    × (length c.walk.new.u ≡ length u)
+    × (c.walk.new.v ≡ xor_each v (column_word (word_of s.args.stream) (length u) r nodes))
+    × (length c.walk.new.v ≡ length s.args.v.now)
 walked c =
     let s = entry (at-sides (at-mask c.before)) in
     let u = s.args.u.now in
@@ -146,7 +146,7 @@ walked c =
 inside : (c : tie.After-walk)
     → let s = entry (at-sides (at-mask c.before)) in
     let n = length s.args.u.now in
-    ((s.args.k - 1 - s.args.level) * n + n ≤ length c.walk.new.1.1.1.1.0) × (length c.walk.new.1.1.1.0 ≡ n)
+    ((s.args.k - 1 - s.args.level) * n + n ≤ length c.walk.new.v) × (length c.walk.new.u ≡ n)
 inside c =
     let w = walked c in
     (omega (arith, w.3, (fits (entry (at-sides (at-mask c.before)))).0), w.1)
@@ -170,7 +170,7 @@ add-where-requires-2 c κs =
     let at : ℕ = (s.args.k - 1 - s.args.level) * n in
     let here = inside (at-walk c) in
     let size : at + n - at ≡ n = omega arith in
-    (mid_len at (at + n) (at-walk c).walk.new.1.1.1.1.0 here.0 ∙ size ∙ sym here.1, omega (arith, here.1, s.requires.1.0), every-side)
+    (mid_len at (at + n) (at-walk c).walk.new.v here.0 ∙ size ∙ sym here.1, omega (arith, here.1, s.requires.1.0), every-side)
 
 same_length : tie.Need-shape_of-u
 same_length c = omega arith
@@ -184,8 +184,8 @@ returns c =
     let w = walked (at-walk c.before.before.before) in
     let n = length s.args.u.now in
     let at : ℕ = (s.args.k - 1 - s.args.level) * n in
-    let u = (at-walk c.before.before.before).walk.new.1.1.1.0 in
-    let v = (at-walk c.before.before.before).walk.new.1.1.1.1.0 in (
+    let u = (at-walk c.before.before.before).walk.new.u in
+    let v = (at-walk c.before.before.before).walk.new.v in (
       w.0,
       part-added at (at + n) n v _ (λ i. get_or u i 0) refl
           (c.before.before.add_where-2.ensures ∙ xor_each-cong (part at (at + n - at) v) _ (λ i. get_or u i 0) (λ i lt. every-lane i (get_or u i 0)))

@@ -64,14 +64,14 @@ loop-again c =
     let sides = tabulate 4 (λ j. get_or s.args.sides.now (j * k + w.level) 0) in
     record {
       low = omega (arith, c.before.before.before.before.before.before.before.loop-level-test.true);
-      u-long = f.auto.1.1.1.1.1.0 ∙ w.invariant.u-long;
-      v-long = f.auto.1.1.1.1.1.1.0 ∙ w.invariant.v-long;
+      u-long = f.auto.u ∙ w.invariant.u-long;
+      v-long = f.auto.v ∙ w.invariant.v-long;
       added = λ d h.
           levels-more k s.args.stream (length s.args.u.now) d s.args.s.now s.args.u.now sides w.level w.u w.v _ _
           c.before.before.before.before.before.before.before.loop-level-test.true (λ i lt. (h i lt).0)
           (λ i lt. tabulate-at 4 (λ j. get_or s.args.sides.now (j * k + w.level) 0) i lt ∙ (h i lt).1 w.level c.before.before.before.before.before.before.before.loop-level-test.true)
           (w.invariant.added d h) f.ensures.0
-          (f.ensures.1 ∙ ap (λ (n : ℕ). after k s.args.stream w.level n sides s.args.s.now w.u w.v f.new.1.1.1.1.1.0) w.invariant.u-long);
+          (f.ensures.1 ∙ ap (λ (n : ℕ). after k s.args.stream w.level n sides s.args.s.now w.u w.v f.new.u) w.invariant.u-long);
     }
 
 same_length : tie.Need-shape_of-u invariant-loop decreases-loop

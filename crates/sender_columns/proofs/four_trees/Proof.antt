@@ -73,16 +73,16 @@ load-lanes-requires c κs = omega arith
 loaded : (c : tie.After-load_corrections)
     → (let s = entry (at_clear c.before) in
     let len = s.args.len in
-    let u = c.load_corrections.new.1.1.0 ++ post_of 0 (len - 0) (at_clear c.before).clear.new.0 in
+    let u = c.load_corrections.new.u ++ post_of 0 (len - 0) (at_clear c.before).clear.new.t in
     (length u ≡ length s.args.u.now)
     × ((l : ℕ) → l < 4 → LaneHas len l (tree_correction len s.args.correction.now (s.args.i + l)) u))
 loaded c =
     let s = entry (at_clear c.before) in
     let len = s.args.len in
-    let cleared = (at_clear c.before).clear.new.0 in
-    let all = (at_clear c.before).clear.auto.0 in
-    let ys = c.load_corrections.new.1.1.0 in
-    let kept = c.load_corrections.auto.1.1.0 in
+    let cleared = (at_clear c.before).clear.new.t in
+    let all = (at_clear c.before).clear.auto.t in
+    let ys = c.load_corrections.new.u in
+    let kept = c.load_corrections.auto.u in
     let cut : len - 0 ≡ len = omega arith in
     let mid : length (mid_of 0 (len - 0) cleared) ≡ len = mid_len 0 len cleared (omega (arith, all, s.requires.1.1.room)) ∙ cut in (
       same_len_mid 0 (len - 0) cleared ys kept ∙ all,
@@ -96,7 +96,7 @@ add-levels-requires c κs =
     let s = entry (at_clear (at-corrections (at-lanes c)).before) in
     let long = (loaded (at-corrections (at-lanes c))).0 in
     let clear = (at-corrections (at-lanes c)).before.before.before.before.clear2 in (
-      (s.requires.1.1.shallow, s.requires.0.0.sides-long, s.requires.0.0.sides-low, c.before.before.before.before.before.load_lanes.auto.0 ∙ s.requires.1.0),
+      (s.requires.1.1.shallow, s.requires.0.0.sides-long, s.requires.0.0.sides-low, c.before.before.before.before.before.load_lanes.auto.t ∙ s.requires.1.0),
       (
         omega (arith, long, s.requires.1.1.blocks),
         omega (arith, long, s.requires.1.1.short),
@@ -138,7 +138,7 @@ returns c d h =
     let v = done.last.1.1.1.1.1.0 in
     let siblings = (at-lanes (at-levels c.before.before.before).before).load_lanes in
     let words : length s.args.s.now / 4 ≡ 8 * k = omega (arith, s.requires.1.0) in
-    let room : List ℕ = (at-corrections (at-lanes (at-levels c.before.before.before).before)).load_corrections.new.1.1.0 ++ post_of 0 (len - 0) (at_clear (at-corrections (at-lanes (at-levels c.before.before.before).before)).before).clear.new.0 in
+    let room : List ℕ = (at-corrections (at-lanes (at-levels c.before.before.before).before)).load_corrections.new.u ++ post_of 0 (len - 0) (at_clear (at-corrections (at-lanes (at-levels c.before.before.before).before)).before).clear.new.t in
     c.before.before.store_trees.ensures
     ∙ concat-same 4 _ _
     (λ i hi.

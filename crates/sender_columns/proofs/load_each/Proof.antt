@@ -64,14 +64,14 @@ loop-again c =
     let m : ℕ = length s.args.u.now in
     let correction = s.args.correction.now in
     let taken = call.before.before.loop-l-test.true in
-    let u' = call.load_correction.new.1.1.0 in
+    let u' = call.load_correction.new.u in
     let new : LaneHas m w.l (tree_correction m correction (i + w.l)) u' =
     subst (λ (z : ℕ). LaneHas z w.l (tree_correction z correction (i + w.l)) u') w.invariant.long call.load_correction.ensures.0 in
     let kept : (j : ℕ) → j < 4 → (j ≡ w.l → ⊥) → lane_bytes j (m / 4) u' ≡ lane_bytes j (m / 4) w.u =
     subst (λ (z : ℕ). (j : ℕ) → j < 4 → (j ≡ w.l → ⊥) → lane_bytes j (z / 4) u' ≡ lane_bytes j (z / 4) w.u) w.invariant.long call.load_correction.ensures.1 in
     record {
       low = omega (arith, taken);
-      long = call.load_correction.auto.1.1.0 ∙ w.invariant.long;
+      long = call.load_correction.auto.u ∙ w.invariant.long;
       done = one-lane-more m w.l (λ j. tree_correction m correction (i + j)) w.u u' taken kept new w.invariant.done;
       zero = λ j hj le x h.
           let apart : j ≡ w.l → ⊥ = λ q. omega (arith, q, le) in

@@ -50,7 +50,7 @@ part-store-lanes-end c =
     let s = b.before.before.before.before.before.before.before.before.before in
     let n : ℕ = 64 * s.args.k in
     let made = zeros-added 512 n _ _ b.totals.ensures (omega (arith, s.requires.0)) in
-    front_fits n b.totals.new.1.1.0 (drop (n - 0) (replicate 512 0)) made.0
+    front_fits n b.totals.new.t (drop (n - 0) (replicate 512 0)) made.0
 
 store-lanes-requires : tie.Need-store_lanes-requires
 store-lanes-requires c κs = search rules
@@ -66,7 +66,7 @@ returns c =
     let b = c.before.before.before.before.before.before.before.before.before.before.before in
     let s = b.before.before.before.before.before.before.before.before.before in
     let k = s.args.k in
-    let t : List ℕ = b.totals.new.1.1.0 in
+    let t : List ℕ = b.totals.new.t in
     let made = zeros-added 512 (64 * k) t _ b.totals.ensures (omega (arith, s.requires.0)) in
     c.before.before.xor_into.ensures
     ∙ ap (λ (m : List ℕ). xor_list m s.args.pads.now)

@@ -60,8 +60,8 @@ loop-again c =
     let did = c.before.before.before.before.next_level in
     record {
       low = more;
-      t-long = did.auto.1.1.1.0 ∙ w.invariant.t-long;
-      s-long = did.auto.1.1.1.1.0 ∙ w.invariant.s-long;
+      t-long = did.auto.t ∙ w.invariant.t-long;
+      s-long = did.auto.s ∙ w.invariant.s-long;
       found = λ i h.
           found-more k _ (λ l. s.requires.0.low (i * k + l)) _ i h w.level w.s w.t _ _ s.args.sides.now more w.invariant.s-long w.invariant.t-long
           (λ j. refl) (w.invariant.found i h) did.ensures.0 did.ensures.1;

@@ -28,7 +28,7 @@ unmask-all-requires c κs =
 all-trees-requires : tie.Need-all_trees-requires
 all-trees-requires c κs =
     let s = c.before.before.before.before.before.before.before.before.before.before in
-    (s.requires.0, s.requires.1, s.requires.2, c.before.before.before.before.unmask_all.auto.1.1.1.0 ∙ s.requires.5)
+    (s.requires.0, s.requires.1, s.requires.2, c.before.before.before.before.unmask_all.auto.siblings ∙ s.requires.5)
 
 same_length : tie.Need-shape_of-siblings-then-k-gt1
 same_length c = search rules

@@ -37,12 +37,12 @@ all-requires c κs =
 sides-are : (c : tie.After-all)
     → (let s = c.before.before.before.before.before.before in
     let m : ℕ = s.args.n * s.args.k in
-    take (m - 0) (c.all.new.1.1.0 ++ drop (m - 0) (replicate 128 0)) ≡ sides_of m s.args.k s.args.delta.now)
+    take (m - 0) (c.all.new.out ++ drop (m - 0) (replicate 128 0)) ≡ sides_of m s.args.k s.args.delta.now)
 sides-are c =
     let s = c.before.before.before.before.before.before in
     let m : ℕ = s.args.n * s.args.k in
     let cut = cut-length m 128 s.requires.0.few in
-    lent-sides m s.args.k s.args.delta.now (take (m - 0) (replicate 128 0)) c.all.new.1.1.0 (drop (m - 0) (replicate 128 0)) cut c.all.auto.1.1.0 c.all.ensures
+    lent-sides m s.args.k s.args.delta.now (take (m - 0) (replicate 128 0)) c.all.new.out (drop (m - 0) (replicate 128 0)) cut c.all.auto.out c.all.ensures
 
 sub-find-by-sides : tie.Need-slice_bounds-find_by_sides-count
 sub-find-by-sides c = omega arith
@@ -55,7 +55,7 @@ part-find-by-sides-end c =
     let s = c.before.before.before.before.before.before.before.before in
     let all = c.before.before.all in
     let m : ℕ = s.args.n * s.args.k in
-    let long = same_len_mid 0 (m - 0) (replicate 128 0) all.new.1.1.0 all.auto.1.1.0 in
+    let long = same_len_mid 0 (m - 0) (replicate 128 0) all.new.out all.auto.out in
     omega (arith, s.requires.0.few, long, length-replicate {A = ℕ} 128 0)
 
 find-by-sides-requires : tie.Need-find_by_sides-requires

@@ -68,7 +68,7 @@ totals-requires c κs =
 -- t, back from the walk
 added : (c : tie.After-totals)
     → let s = entry c.before in
-    TotalsAdded s.args.k s.args.level s.args.t.now s.args.s.now c.totals.new.1.1.0
+    TotalsAdded s.args.k s.args.level s.args.t.now s.args.s.now c.totals.new.t
 added c =
     let s = entry c.before in
     totals-back s.args.k s.args.level s.args.t.now s.args.s.now _ _ s.requires.0.0 s.requires.1.0 c.totals.ensures
@@ -141,7 +141,7 @@ returns c =
     let next : ℕ = s.args.level + 1 in
     let a : ℕ = 64 * next in
     let b : ℕ = 32 * next in
-    let t = put_mid a (length s.args.t.now - a) s.args.t.now (at_totals c.before.before.before).totals.new.1.1.0 in
+    let t = put_mid a (length s.args.t.now - a) s.args.t.now (at_totals c.before.before.before).totals.new.t in
     let sides = c.before.before.before.of_four in
     let side : ℕ → ℕ = λ i. get_or s.args.sides.now (i * k + next) 0 in
     let long : length (part b (b + 32 - b) s.args.s.now) ≡ b + 32 - b = mid_len b (b + 32) s.args.s.now (omega (arith, fits s)) in (
