@@ -51,8 +51,8 @@ returns c =
     let room = kind.before.before.before.before.before.requires.0 in
     let first = laid_as kind.before.before.bytes32.ensures kind.lay-next.ensures in
     laid_more room first
-    (laid_more (room_next room first) (laid_as place.before.before.bytes322.ensures place.lay2.ensures)
-    (laid_as length.before.before.bytes323.ensures length.lay.ensures))
+    (laid_more (room_next room first) (laid_as place.before.before.bytes32-2.ensures place.lay-next-2.ensures)
+    (laid_as length.before.before.bytes32-3.ensures length.lay.ensures))
 
 pub lay_entry_spec : {M : Type 1} → statement M
 lay_entry_spec =

@@ -110,8 +110,8 @@ returns c =
     laid_more (room-contents found) first.lay_contents-at.ensures
     (laid_more (room-setup first) setup.lay-at.ensures
     (laid_more (room-head setup) numbers.lay_head-at.ensures
-    (laid_more (room-correction numbers) correction.lay2.ensures
-    (laid_more (room-key correction) key.lay3.ensures check.lay.ensures)))) in
+    (laid_more (room-correction numbers) correction.lay-at-2.ensures
+    (laid_more (room-key correction) key.lay-at-3.ensures check.lay.ensures)))) in
     all.bytes
     ∙ ap (put s.args.file.now 0) (pieces_are (head s) (bodies s) found.entries_with.result found.entries_with.ensures)
     ∙ put_all s.args.file.now (file_of (values s) (bodies s)) (sym s.requires.0)

@@ -7,9 +7,9 @@ use lib.Dec.{eqb}
 use lib.ListN.{length}
 use borrow.Author.Rules.{rules}
 use borrow.Author.Tests.{eq-eqb, ne_eqb}
-use Rattle.answer-answer.specs.declared.Answer.TheVariants.{Done, Length}
-use Rattle.answer-answer.specs.Answer.{is_done, Order, first_of}
-use Rattle.answer-answer.proofs.Order.{all_hold, first-refused, last-decides}
+use Rattle.answer.specs.declared.Answer.TheVariants.{Done, Length}
+use Rattle.answer.specs.Answer.{is_done, Order, first_of}
+use Rattle.answer.proofs.Order.{all_hold, first-refused, last-decides}
 use Rattle.words.specs.Bytes.{little_endian}
 use Rattle.sizes.specs.Sizes.{file_length}
 use Rattle.rules.specs.Orders.{has, file_order}

@@ -45,7 +45,7 @@ returns c =
     let k = s.args.k in
     let n : ℕ = length s.args.u.now in
     let zero = u.clear.ensures in
-    let zero₂ = v.clear2.ensures ∙ ap (λ (m : ℕ). replicate m 0) s.requires.4 in (
+    let zero₂ = v.clear-2.ensures ∙ ap (λ (m : ℕ). replicate m 0) s.requires.4 in (
       u-walked k s.args.stream n s.args.roots.now _ load.load_lanes.ensures _ zero _ walked.walk.ensures.0,
       column-walked k s.args.stream n s.args.roots.now _ load.load_lanes.ensures _ zero _ _ zero₂ walked.walk.ensures.1,
     )

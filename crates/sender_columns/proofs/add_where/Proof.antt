@@ -209,7 +209,7 @@ returns : tie.Need-returns invariant-loop decreases-loop
 returns c =
     let s = c.before.before.before.before.before.before.before.before in
     let w = c.before.loop-i in
-    masked-all s.args.v.now w.v s.args.u.now s.args.t3 _ _ _ _ w.i s.requires.2
+    masked-all s.args.v.now w.v s.args.u.now s.args.sides _ _ _ _ w.i s.requires.2
     (λ i. (c.before.before.before.before.before.before.shared_slice_known-1.given i).fits) c.before.before.before.before.before.mask-m0.ensures c.before.before.before.before.mask-m1.ensures c.before.before.before.mask-m2.ensures c.before.before.mask-m3.ensures
     (omega (arith, w.invariant.low, s.requires.0)) w.invariant.added
 

@@ -95,7 +95,7 @@ add-levels-requires : tie.Need-add_levels-requires
 add-levels-requires c κs =
     let s = entry (at_clear (at-corrections (at-lanes c)).before) in
     let long = (loaded (at-corrections (at-lanes c))).0 in
-    let clear = (at-corrections (at-lanes c)).before.before.before.before.clear2 in (
+    let clear = (at-corrections (at-lanes c)).before.before.before.before.clear-2 in (
       (s.requires.1.1.shallow, s.requires.0.0.sides-long, s.requires.0.0.sides-low, c.before.before.before.before.before.load_lanes.auto.t ∙ s.requires.1.0),
       (
         omega (arith, long, s.requires.1.1.blocks),
@@ -111,7 +111,7 @@ store-trees-requires c κs =
     let s = entry (at_clear (at-corrections (at-lanes (at-levels c).before)).before) in
     let done = (at-levels c).add_levels in
     let long = done.kept.1.1.1.1.0 ∙ (loaded (at-corrections (at-lanes (at-levels c).before))).0 in
-    let all = done.kept.1.1.1.1.1.0 ∙ (at-corrections (at-lanes (at-levels c).before)).before.before.before.before.clear2.auto.0 ∙ s.requires.1.1.columns ∙ ap (λ (n : ℕ). s.args.k * n) (sym long) in (
+    let all = done.kept.1.1.1.1.1.0 ∙ (at-corrections (at-lanes (at-levels c).before)).before.before.before.before.clear-2.auto.0 ∙ s.requires.1.1.columns ∙ ap (λ (n : ℕ). s.args.k * n) (sym long) in (
       (s.requires.1.1.shallow, omega (arith, long, s.requires.1.1.room), omega (arith, long, s.requires.1.1.short), s.requires.1.1.whole),
       (omega (arith, all), s.requires.0.1.table-long),
     )
