@@ -42,7 +42,7 @@ loop-again : tie.Need-loop-i-preserved invariant-loop decreases-loop
 loop-again c =
     let stored = c.before.before.store64 in
     let w = c.before.before.before.before.before.loop-i in
-    let x = c.before.before.before.before.before.before.before.args.t2 in
+    let x = c.before.before.before.before.before.before.before.args.x in
     let more = word_more (λ j. get_or x j 0) w.out w.i (omega (arith, w.invariant.1)) w.invariant.2 in (
       omega arith,
       ap length stored.ensures ∙ more.0 ∙ w.invariant.1,
@@ -55,7 +55,7 @@ same_length c = search rules
 returns : tie.Need-returns invariant-loop decreases-loop
 returns c =
     let w = c.before.loop-i in
-    let x = c.before.before.before.args.t2 in
+    let x = c.before.before.before.args.x in
     let all : w.i ≡ 4 = omega arith in
     sym (take_all (8 * w.i) w.out (omega (arith, w.invariant.1)))
     ∙ w.invariant.2

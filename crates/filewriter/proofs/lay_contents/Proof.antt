@@ -32,7 +32,7 @@ counted c = laid_as c.before.before.bytes32.ensures c.lay-at.ensures
 
 room : (c : tie.After-lay-at invariant-loop decreases-loop)
     → let a = c.before.before.before.before.before.args in
-    Room c.lay-at.new.out c.lay-at.result (concat a.n (entries a.n a.t3))
+    Room c.lay-at.new.out c.lay-at.result (concat a.n (entries a.n a.lengths))
 room c = room_next c.before.before.before.before.before.requires.0 (counted c)
 
 cast-bytes32 : tie.Need-overflow_cast-n invariant-loop decreases-loop
@@ -74,11 +74,11 @@ lay-entry-requires c κs =
     let w = c.before.before in
     let a = w.before.before.before.before.before.before.before.before.before in
     let n = a.args.n in
-    let size = size_in n a.args.t3 in
+    let size = size_in n a.args.lengths in
     let e = w.loop-e.e in
     let within = total-room n size e (omega arith) in (
       room_as (ap (λ (place : ℕ). bytes 4 (kind_of n e) ++ (bytes 4 place ++ bytes 4 (size e))) (sym w.loop-e.invariant.1))
-          (room_at (entries n a.args.t3) n (room w.before.before.before.before) w.loop-e.invariant.2 (omega arith)),
+          (room_at (entries n a.args.lengths) n (room w.before.before.before.before) w.loop-e.invariant.2 (omega arith)),
       omega arith,
       omega (arith, w.loop-e.invariant.1, within, a.requires.3),
       omega (arith, within, a.requires.3),
@@ -88,7 +88,7 @@ add-place : tie.Need-overflow_add-place invariant-loop decreases-loop
 add-place c =
     let w = c.before.before.before.before.before in
     let a = w.before.before.before.before.before.before.before.before.before in
-    let size = size_in a.args.n a.args.t3 in
+    let size = size_in a.args.n a.args.lengths in
     omega (arith, w.loop-e.invariant.1, total-room a.args.n size w.loop-e.e (omega arith), a.requires.3)
 
 add-e : tie.Need-overflow_add-e invariant-loop decreases-loop
@@ -102,11 +102,11 @@ loop-again c =
     let w = c.before.before.before.before.before in
     let a = w.before.before.before.before.before.before.before.before.before in
     let n = a.args.n in
-    let size = size_in n a.args.t3 in
+    let size = size_in n a.args.lengths in
     let e = w.loop-e.e in (
       omega arith,
       omega (arith, w.loop-e.invariant.1, total-more e size),
-      laid-at (entries n a.args.t3) n (room w.before.before.before.before) w.loop-e.invariant.2 (omega arith)
+      laid-at (entries n a.args.lengths) n (room w.before.before.before.before) w.loop-e.invariant.2 (omega arith)
           (laid_as (ap (λ (place : ℕ). bytes 4 (kind_of n e) ++ (bytes 4 place ++ bytes 4 (size e))) w.loop-e.invariant.1) c.before.before.lay_entry-at.ensures),
     )
 
@@ -115,7 +115,7 @@ same_length c =
     let w = c.before in
     let a = w.before.before.before.before.before.before.before.before.before in
     let laid = w.before.before.before.before in
-    laid_kept (entries a.args.n a.args.t3) a.args.n (room laid) w.loop-e.invariant.2 w.loop-e.invariant.0
+    laid_kept (entries a.args.n a.args.lengths) a.args.n (room laid) w.loop-e.invariant.2 w.loop-e.invariant.0
     ∙ laid-length (room-first _ a.requires.0) (counted laid)
 
 returns : tie.Need-returns invariant-loop decreases-loop
@@ -124,7 +124,7 @@ returns c =
     let a = w.before.before.before.before.before.before.before.before.before in
     let all : w.loop-e.e ≡ a.args.n = omega arith in
     laid_more a.requires.0 (counted w.before.before.before.before)
-    (laid_as (ap (λ (e : ℕ). concat e (entries a.args.n a.args.t3)) all) w.loop-e.invariant.2)
+    (laid_as (ap (λ (e : ℕ). concat e (entries a.args.n a.args.lengths)) all) w.loop-e.invariant.2)
 
 pub lay_contents_spec : {M : Type 1} → statement M
 lay_contents_spec =

@@ -51,10 +51,10 @@ loop-again c =
     let stored = c.before.before.store64 in
     let h = c.before.before.before.before.before.loop-c in
     let a = c.before.before.before.before.before.before.before.args in
-    let x : ℕ = get_or a.t3 h.c 0 in (
+    let x : ℕ = get_or a.v h.c 0 in (
       omega arith,
       ap length stored.ensures ∙ put-length h.rows (8 * (16 * h.c + a.i)) (bytes 8 x) (omega (arith, h.invariant.1)) ∙ h.invariant.1,
-      stored.ensures ∙ ap (λ (l : List ℕ). store_bytes l (16 * h.c + a.i) x) h.invariant.2 ∙ stores-next store_bytes h.c a.rows.now a.i a.t3,
+      stored.ensures ∙ ap (λ (l : List ℕ). store_bytes l (16 * h.c + a.i) x) h.invariant.2 ∙ stores-next store_bytes h.c a.rows.now a.i a.v,
     )
 
 same_length : tie.Need-shape_of-rows invariant-loop decreases-loop
@@ -65,7 +65,7 @@ returns c =
     let h = c.before.loop-c in
     let a = c.before.before.before.args in
     let all : h.c ≡ 8 = omega (arith, c.loop-c-test.false) in
-    h.invariant.2 ∙ ap (λ (n : ℕ). stores store_bytes n a.rows.now a.i a.t3) all
+    h.invariant.2 ∙ ap (λ (n : ℕ). stores store_bytes n a.rows.now a.i a.v) all
 
 pub put_bytes_spec : {M : Type 1} → statement M
 put_bytes_spec =

@@ -48,14 +48,14 @@ loop-again : tie.Need-loop-c-preserved invariant-loop decreases-loop
 loop-again c =
     let h = c.before.loop-c in
     let a = c.before.before.args in
-    (omega arith, ap (λ (l : List ℕ). set l (16 * h.c + a.i) (get_or a.t3 h.c 0)) h.invariant.1 ∙ stores-next set h.c a.w.now a.i a.t3)
+    (omega arith, ap (λ (l : List ℕ). set l (16 * h.c + a.i) (get_or a.v h.c 0)) h.invariant.1 ∙ stores-next set h.c a.w.now a.i a.v)
 
 returns : tie.Need-returns invariant-loop decreases-loop
 returns c =
     let h = c.before.loop-c in
     let a = c.before.before.args in
     let all : h.c ≡ 8 = omega (arith, c.loop-c-test.false) in
-    h.invariant.1 ∙ ap (λ (n : ℕ). stores set n a.w.now a.i a.t3) all
+    h.invariant.1 ∙ ap (λ (n : ℕ). stores set n a.w.now a.i a.v) all
 
 pub put_words_spec : {M : Type 1} → statement M
 put_words_spec =

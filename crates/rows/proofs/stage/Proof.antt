@@ -48,7 +48,7 @@ swap-requires-4 c κs = search rules
 returns : tie.Need-returns
 returns c =
     let s = c.before.before.before.before in
-    let v : List ℕ = s.args.t1 in
+    let v : List ℕ = s.args.v in
     let p = c.before.before.before.swap-a in
     let q = c.before.before.swap-b in
     let r = c.before.swap-c in

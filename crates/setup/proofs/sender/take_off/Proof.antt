@@ -65,7 +65,7 @@ loop-again : tie.Need-loop-i-preserved invariant-loop decreases-loop
 loop-again c =
     let s = c.before.before.before.before.before.before.before.before in
     let w = c.before.before.before.before.before.loop-i in
-    let side = get_or s.args.t3 (w.i % 4) 0 in
+    let side = get_or s.args.sides (w.i % 4) 0 in
     let known = c.before.before.before.before.before.before.shared_slice_known-1.given in
     let taken = chosen 32 s.args.totals.now w.i side _ (known w.i).fits (known (32 + w.i)).fits (s.requires.2 (w.i % 4)) c.before.before.mask-ones.ensures in
     (omega arith, updated-one _ _ _ _ _ (omega (arith, s.requires.0)) (ap₂ bit_xor (w.invariant.1.rest w.i (omega arith)) taken) w.invariant.1)
@@ -78,7 +78,7 @@ returns c =
     let s = c.before.before.before.before in
     let w = c.before.loop-i in
     let nodes = s.args.nodes.now in
-    let f : ℕ → ℕ = λ j. get_or s.args.totals.now (32 * get_or s.args.t3 (j % 4) 0 + j) 0 in
+    let f : ℕ → ℕ = λ j. get_or s.args.totals.now (32 * get_or s.args.sides (j % 4) 0 + j) 0 in
     updated-all nodes w.nodes (xor_each nodes f) (λ j. get_or nodes j 0 ⊕ f j) w.i (omega (arith, s.requires.0))
     (xor_each-length nodes f) (λ i h. xor_each-at nodes f i h) w.invariant.1
 
