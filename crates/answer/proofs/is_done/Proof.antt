@@ -6,11 +6,11 @@ use borrow.Author.Rules.{rules}
 use Rattle.answer.proofs.is_done.Statement.{statement}
 use Rattle.answer.proofs.is_done.Tie as tie
 
-number-of-requires : tie.Need-number-of-requires
+number-of-requires : tie.Need-number_of-requires
 number-of-requires c κs = search rules
 
 returns : tie.Need-returns
-returns c = ap (λ (n : ℕ). eqb n 0) c.number_of_lem.ensures
+returns c = ap (λ (n : ℕ). eqb n 0) c.number_of.ensures
 
-pub is-done-spec : {M : Type 1} → statement M
-is-done-spec = tie.close (tie.spec number-of-requires returns)
+pub is_done_spec : {M : Type 1} → statement M
+is_done_spec = tie.close (tie.spec number-of-requires returns)

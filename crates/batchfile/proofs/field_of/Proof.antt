@@ -4,13 +4,13 @@ use Rattle.batchfile.proofs.Contents.{standing}
 use Rattle.batchfile.proofs.field_of.Statement.{statement}
 use Rattle.batchfile.proofs.field_of.Tie as tie
 
-add-field : tie.Need-overflow-add-field
+add-field : tie.Need-overflow_add-kind
 add-field c =
     let p = c.before.requires in
     let n = (standing c.before.args.file.now p.0).counts in
     omega (arith, n.most, p.1, p.3)
 
-sub-field : tie.Need-overflow-sub-field
+sub-field : tie.Need-overflow_sub-kind
 sub-field c =
     let p = c.before.requires in
     let n = (standing c.before.args.file.now p.0).counts in
@@ -25,5 +25,5 @@ field-requires c κs =
 returns : tie.Need-returns
 returns c = c.field.ensures.0
 
-pub field-of-spec : {M : Type 1} → statement M
-field-of-spec = tie.close (tie.spec add-field sub-field field-requires returns)
+pub field_of_spec : {M : Type 1} → statement M
+field_of_spec = tie.close (tie.spec add-field sub-field field-requires returns)

@@ -8,7 +8,7 @@ use Rattle.batchfile.proofs.Contents.{standing, body-length}
 use Rattle.batchfile.proofs.length_of.Statement.{statement}
 use Rattle.batchfile.proofs.length_of.Tie as tie
 
-field-of-requires : tie.Need-field-of-requires
+field-of-requires : tie.Need-field_of-requires
 field-of-requires c κs = search rules
 
 returns : tie.Need-returns
@@ -20,5 +20,5 @@ returns c =
     ∙ ap (λ (m : ℕ). length_at file (entry_of m s.args.kind)) s.requires.1
     ∙ sym (body-length file s.requires.0 s.args.kind (omega (arith, n.least, s.requires.2)) s.requires.3)
 
-pub length-of-spec : {M : Type 1} → statement M
-length-of-spec = tie.close (tie.spec field-of-requires returns)
+pub length_of_spec : {M : Type 1} → statement M
+length_of_spec = tie.close (tie.spec field-of-requires returns)

@@ -7,7 +7,7 @@ use Rattle.batchfile.proofs.Contents.{standing}
 use Rattle.batchfile.proofs.place_of.Statement.{statement}
 use Rattle.batchfile.proofs.place_of.Tie as tie
 
-field-of-requires : tie.Need-field-of-requires
+field-of-requires : tie.Need-field_of-requires
 field-of-requires c κs = search rules
 
 returns : tie.Need-returns
@@ -16,5 +16,5 @@ returns c =
     let t = standing s.args.file.now s.requires.0 in
     c.field_of.ensures ∙ t.begins (entry_of s.args.n s.args.kind) (omega (arith, t.counts.least, s.requires.1, s.requires.3))
 
-pub place-of-spec : {M : Type 1} → statement M
-place-of-spec = tie.close (tie.spec field-of-requires returns)
+pub place_of_spec : {M : Type 1} → statement M
+place_of_spec = tie.close (tie.spec field-of-requires returns)

@@ -8,10 +8,10 @@ use Rattle.batchfile.specs.File.{head_of, places_of, nowhere, no_head, read_answ
 use Rattle.batchfile.proofs.refused.Statement.{statement}
 use Rattle.batchfile.proofs.refused.Tie as tie
 
-no-head-requires : tie.Need-no-head-requires
+no-head-requires : tie.Need-no_head-head-requires
 no-head-requires c κs = search rules
 
-nowhere-requires : tie.Need-nowhere-requires
+nowhere-requires : tie.Need-nowhere-places-requires
 nowhere-requires c κs = search rules
 
 returns : tie.Need-returns
@@ -21,9 +21,9 @@ returns c =
     let no = ap is_done (sym s.requires.0) ∙ s.requires.1 in
     record {
       answered = s.requires.0;
-      headed = c.before.no-head.ensures ∙ sym (old-when (read_answer file) (head_of file) no_head no);
-      placed = c.nowhere.ensures ∙ sym (old-when (read_answer file) (places_of file) (nowhere (length file)) no);
+      headed = c.before.no_head-head.ensures ∙ sym (old-when (read_answer file) (head_of file) no_head no);
+      placed = c.nowhere-places.ensures ∙ sym (old-when (read_answer file) (places_of file) (nowhere (length file)) no);
     }
 
-pub refused-spec : {M : Type 1} → statement M
-refused-spec = tie.close (tie.spec no-head-requires nowhere-requires returns)
+pub refused_spec : {M : Type 1} → statement M
+refused_spec = tie.close (tie.spec no-head-requires nowhere-requires returns)

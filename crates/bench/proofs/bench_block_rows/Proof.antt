@@ -25,57 +25,57 @@ tested len block table rows hp hq hr hs =
     (ap (λ (b : Bool). cond b (concat 64 (λ i. row_of 128 len table (64 * block + i))) rows)
     (ap₂ ◌&&◌ hp (ap₂ ◌&&◌ hq (ap₂ ◌&&◌ hr hs))))
 
-mul_at : tie.Need-overflow-mul-at
+mul_at : tie.Need-overflow_mul-at
 mul_at c = search rules
 
-returns : tie.Need-returns
+returns : tie.Need-returns-then-len-gt65536
 returns c =
     let a = c.before.before.before.args in
-    tested a.len a.block a.table.now a.rows.now (lt-leb a.len 65536 c.if1.true) refl refl refl
+    tested a.len a.block a.table.now a.rows.now (lt-leb a.len 65536 c.if-len-gt65536.true) refl refl refl
 
-mul-if2 : tie.Need-overflow-mul-if2
+mul-if2 : tie.Need-overflow_mul-len
 mul-if2 c = search rules
 
-returns-2 : tie.Need-returns-2
+returns-2 : tie.Need-returns-then-table-len
 returns-2 c =
     let a = c.before.before.before.before.args in
-    tested a.len a.block a.table.now a.rows.now (le-leb a.len 65536 c.before.if1.false)
-    (ne_eqb (length a.table.now) (128 * a.len) c.if2.true) refl refl
+    tested a.len a.block a.table.now a.rows.now (le-leb a.len 65536 c.before.if-len-gt65536.false)
+    (ne_eqb (length a.table.now) (128 * a.len) c.if-table-len.true) refl refl
 
-add-if3 : tie.Need-overflow-add-if3
+add-if3 : tie.Need-overflow_add-at
 add-if3 c = search rules
 
-returns-3 : tie.Need-returns-3
+returns-3 : tie.Need-returns-then-len-at
 returns-3 c =
     let a = c.before.before.before.before.before.args in
-    tested a.len a.block a.table.now a.rows.now (le-leb a.len 65536 c.before.before.if1.false)
-    (eq-eqb (length a.table.now) (128 * a.len) c.before.if2.false) (lt-leb (8 * a.block + 8) a.len c.if3.true) refl
+    tested a.len a.block a.table.now a.rows.now (le-leb a.len 65536 c.before.before.if-len-gt65536.false)
+    (eq-eqb (length a.table.now) (128 * a.len) c.before.if-table-len.false) (lt-leb (8 * a.block + 8) a.len c.if-len-at.true) refl
 
-returns-4 : tie.Need-returns-4
+returns-4 : tie.Need-returns-then-rows-ne1024
 returns-4 c =
     let a = c.before.before.before.before.before.before.args in
-    tested a.len a.block a.table.now a.rows.now (le-leb a.len 65536 c.before.before.before.if1.false)
-    (eq-eqb (length a.table.now) (128 * a.len) c.before.before.if2.false) (le-leb (8 * a.block + 8) a.len c.before.if3.false)
-    (ne_eqb (length a.rows.now) 1024 c.if4.true)
+    tested a.len a.block a.table.now a.rows.now (le-leb a.len 65536 c.before.before.before.if-len-gt65536.false)
+    (eq-eqb (length a.table.now) (128 * a.len) c.before.before.if-table-len.false) (le-leb (8 * a.block + 8) a.len c.before.if-len-at.false)
+    (ne_eqb (length a.rows.now) 1024 c.if-rows-ne1024.true)
 
-block-rows-requires : tie.Need-block-rows-requires
+block-rows-requires : tie.Need-block_rows-requires
 block-rows-requires c κs = search rules
 
-same_length : tie.Need-same-length
+same_length : tie.Need-shape_of-rows
 same_length c = search rules
 
-returns-5 : tie.Need-returns-5
+returns-5 : tie.Need-returns
 returns-5 c =
     let t = c.before.before.before.before in
     let a = t.before.before.before.before.before.before.args in
     let e : 64 * a.block ≡ 8 * (8 * a.block) + 0 = omega arith in
-    c.before.before.block-rows.ensures (64 * a.block) (ap place_of e ∙ stands (8 * a.block) 0)
-    ∙ tested a.len a.block a.table.now a.rows.now (le-leb a.len 65536 t.before.before.before.if1.false)
-    (eq-eqb (length a.table.now) (128 * a.len) t.before.before.if2.false) (le-leb (8 * a.block + 8) a.len t.before.if3.false)
-    (eq-eqb (length a.rows.now) 1024 t.if4.false)
+    c.before.before.block_rows.ensures (64 * a.block) (ap place_of e ∙ stands (8 * a.block) 0)
+    ∙ tested a.len a.block a.table.now a.rows.now (le-leb a.len 65536 t.before.before.before.if-len-gt65536.false)
+    (eq-eqb (length a.table.now) (128 * a.len) t.before.before.if-table-len.false) (le-leb (8 * a.block + 8) a.len t.before.if-len-at.false)
+    (eq-eqb (length a.rows.now) 1024 t.if-rows-ne1024.false)
 
-pub bench-block-rows-spec : {M : Type 1} → statement M
-bench-block-rows-spec =
+pub bench_block_rows_spec : {M : Type 1} → statement M
+bench_block_rows_spec =
     tie.close
     (tie.spec
     mul_at

@@ -9,33 +9,33 @@ use borrow.Author.Rules.{rules}
 use Rattle.bench.proofs.bench_fold_four.Statement.{statement}
 use Rattle.bench.proofs.bench_fold_four.Tie as tie
 
-returns : tie.Need-returns
+returns : tie.Need-returns-then-len-s
 returns c =
     let a = c.before.before.args in
     λ g h.
     sym
     (ap (λ (b : Bool). cond b (folds_of g a.len a.s.now) a.out.now)
-    (ne_eqb (length a.s.now) (4 * a.len) (λ e. c.if1.true (omega arith))))
+    (ne_eqb (length a.s.now) (4 * a.len) (λ e. c.if-len-s.true (omega arith))))
 
-returns-2 : tie.Need-returns-2
+returns-2 : tie.Need-returns-then-s-ne0
 returns-2 c =
     let a = c.before.before.before.args in
     λ g h.
     sym
     (ap (λ (b : Bool). cond b (folds_of g a.len a.s.now) a.out.now)
-    (ne_eqb (length a.s.now) (4 * a.len) (λ e. c.if2.true (omega arith))))
+    (ne_eqb (length a.s.now) (4 * a.len) (λ e. c.if-s-ne0.true (omega arith))))
 
-fold-four-requires : tie.Need-fold-four-requires
+fold-four-requires : tie.Need-fold_four-requires
 fold-four-requires c κs = search rules
 
-returns-3 : tie.Need-returns-3
+returns-3 : tie.Need-returns
 returns-3 c =
     let a = c.before.before.before.before.args in
     λ g h.
-    c.fold-four.ensures g h
+    c.fold_four.ensures g h
     ∙ sym
     (ap (λ (b : Bool). cond b (folds_of g a.len a.s.now) a.out.now)
     (eq-eqb (length a.s.now) (4 * a.len) (omega arith)))
 
-pub bench-fold-four-spec : {M : Type 1} → statement M
-bench-fold-four-spec = tie.close (tie.spec returns returns-2 fold-four-requires returns-3)
+pub bench_fold_four_spec : {M : Type 1} → statement M
+bench_fold_four_spec = tie.close (tie.spec returns returns-2 fold-four-requires returns-3)

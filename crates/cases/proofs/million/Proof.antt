@@ -7,5 +7,5 @@ use Rattle.cases.proofs.million.Tie as tie
 returns : tie.Need-returns
 returns c = sym (length-replicate 1000000 c.args.b)
 
-pub million-spec : {M : Type 1} → statement M
-million-spec = tie.close (tie.spec returns)
+pub million_spec : {M : Type 1} → statement M
+million_spec = tie.close (tie.spec returns)

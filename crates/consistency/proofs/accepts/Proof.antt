@@ -12,76 +12,76 @@ use Rattle.consistency.proofs.accepts.Statement.{statement}
 use Rattle.consistency.proofs.accepts.Tie as tie
 
 -- where the proof comes back to: the calls before, and the entry
-abbrev entry : tie.After-fold-columns → tie.Start
+abbrev entry : tie.After-fold_columns → tie.Start
 entry c = c.before.before.before.before.before.before.before
 
-abbrev at-folds : tie.After-all-equal-arg → tie.After-fold-columns
+abbrev at-folds : tie.After-all_equal-arg-1 → tie.After-fold_columns
 at-folds c = c.before.before.before
 
-table-requires : tie.Need-table-requires
+table-requires : tie.Need-table-t-requires
 table-requires c κs = search rules
 
-mul-size : tie.Need-overflow-mul-size
+mul-size : tie.Need-overflow_mul-size
 mul-size c = omega (arith, c.before.before.before.before.requires)
 
-sub-fold-columns : tie.Need-overflow-sub-fold-columns
+sub-fold-columns : tie.Need-slice_bounds-fold_columns-count
 sub-fold-columns c = omega arith
 
-part-folds-start : tie.Need-slice-bounds-folds-start
+part-folds-start : tie.Need-slice_bounds-folds-start
 part-folds-start c = omega arith
 
-part-folds-end : tie.Need-slice-bounds-folds-end
+part-folds-end : tie.Need-slice_bounds-folds-end
 part-folds-end c = omega (arith, c.before.before.before.before.before.requires)
 
-fold-columns-requires : tie.Need-fold-columns-requires
+fold-columns-requires : tie.Need-fold_columns-requires
 fold-columns-requires c κs =
     let s = c.before.before.before.before.before.before in
     let few : 8 * s.args.m ≤ 1024 = omega (arith, s.requires.1) in
     (s.requires.0, s.requires.2, cut-length (8 * s.args.m) 1024 few)
 
 -- the folds that are lent again
-held : (c : tie.After-fold-columns) → length c.fold-columns.new.1.1.1.1.0 ≡ 8 * (entry c).args.m
+held : (c : tie.After-fold_columns) → length c.fold_columns.new.out ≡ 8 * (entry c).args.m
 held c =
     let s = entry c in
-    let few : 8 * s.args.m ≤ 1024 = omega (arith, s.pre.1) in
-    c.fold-columns.auto.1.1.1.1.0 ∙ cut-length (8 * s.args.m) 1024 few
+    let few : 8 * s.args.m ≤ 1024 = omega (arith, s.requires.1) in
+    c.fold_columns.auto.out ∙ cut-length (8 * s.args.m) 1024 few
 
-lent : (c : tie.After-fold-columns)
+lent : (c : tie.After-fold_columns)
     → (let size : ℕ = 8 * (entry c).args.m in
-    take (size - 0) (c.fold-columns.new.1.1.1.1.0 ++ drop (size - 0) (replicate 1024 0)) ≡ c.fold-columns.new.1.1.1.1.0)
+    take (size - 0) (c.fold_columns.new.out ++ drop (size - 0) (replicate 1024 0)) ≡ c.fold_columns.new.out)
 lent c =
     let size : ℕ = 8 * (entry c).args.m in
     let none : size ≡ size - 0 = omega arith in
-    take_at c.fold-columns.new.1.1.1.1.0 (drop (size - 0) (replicate 1024 0)) (size - 0) (held c ∙ none)
+    take_at c.fold_columns.new.out (drop (size - 0) (replicate 1024 0)) (size - 0) (held c ∙ none)
 
-sub-all-equal : tie.Need-overflow-sub-all-equal
+sub-all-equal : tie.Need-slice_bounds-all_equal-count
 sub-all-equal c = omega arith
 
-part-all-equal-start : tie.Need-slice-bounds-all-equal-start
+part-all-equal-start : tie.Need-slice_bounds-all_equal-start
 part-all-equal-start c = omega arith
 
-part-all-equal-end : tie.Need-slice-bounds-all-equal-end
+part-all-equal-end : tie.Need-slice_bounds-all_equal-end
 part-all-equal-end c =
     let s = entry c.before.before in
-    let folded = c.before.before.fold-columns in
+    let folded = c.before.before.fold_columns in
     let size : ℕ = 8 * s.args.m in
-    let long = same_len_mid 0 (size - 0) (replicate 1024 0) folded.new.1.1.1.1.0 folded.auto.1.1.1.1.0 in
-    omega (arith, s.pre.1, long, length-replicate {A = ℕ} 1024 0)
+    let long = same_len_mid 0 (size - 0) (replicate 1024 0) folded.new.out folded.auto.out in
+    omega (arith, s.requires.1, long, length-replicate {A = ℕ} 1024 0)
 
-all-equal-requires : tie.Need-all-equal-requires
+all-equal-requires : tie.Need-all_equal-requires
 all-equal-requires c κs =
     let s = entry (at-folds c) in
-    (ap length (lent c.before.before.before) ∙ held c.before.before.before, s.pre.3, s.pre.4)
+    (ap length (lent c.before.before.before) ∙ held c.before.before.before, s.requires.3, s.requires.4)
 
 returns : tie.Need-returns
 returns c =
     let s = entry (at-folds c.before) in
     let folded = c.before.before.before.before in
-    c.all-equal.ensures s.args.len s.args.key s.args.table.now s.fits.key.fits (λ i. ((at-folds c.before).before.before.before.before.before.before.shared-slice-known.given i).fits)
-    (lent folded ∙ folded.fold-columns.ensures s.args.key (at-folds c.before).before.before.before.table.ensures)
+    c.all_equal.ensures s.args.len s.args.key s.args.table-t.now s.fits.key.fits (λ i. ((at-folds c.before).before.before.before.before.before.before.shared_slice_known-1.given i).fits)
+    (lent folded ∙ folded.fold_columns.ensures s.args.key (at-folds c.before).before.before.before.table-t.ensures)
 
-pub accepts-spec : {M : Type 1} → statement M
-accepts-spec =
+pub accepts_spec : {M : Type 1} → statement M
+accepts_spec =
     tie.close
     (tie.spec
     table-requires

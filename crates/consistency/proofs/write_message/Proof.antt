@@ -16,32 +16,32 @@ fold-requires c κs = search rules
 store64-requires : tie.Need-store64-requires
 store64-requires c κs = search rules
 
-table-requires : tie.Need-table-requires
+table-requires : tie.Need-table-t-requires
 table-requires c κs = search rules
 
-mul-end : tie.Need-overflow-mul-end
+mul-end : tie.Need-overflow_mul-end
 mul-end c = search rules
 
-add-end : tie.Need-overflow-add-end
+add-end : tie.Need-overflow_add-end
 add-end c = search rules
 
-sub-fold-columns : tie.Need-overflow-sub-fold-columns
+sub-fold-columns : tie.Need-slice_bounds-fold_columns-count
 sub-fold-columns c = search rules
 
-part-fold-columns-start : tie.Need-slice-bounds-fold-columns-start
+part-fold-columns-start : tie.Need-slice_bounds-fold_columns-start
 part-fold-columns-start c = search rules
 
-part-fold-columns-end : tie.Need-slice-bounds-fold-columns-end
+part-fold-columns-end : tie.Need-slice_bounds-fold_columns-end
 part-fold-columns-end c = search rules
 
-fold-columns-requires : tie.Need-fold-columns-requires
+fold-columns-requires : tie.Need-fold_columns-requires
 fold-columns-requires c κs =
     let s = c.before.before.before.before.before.before.before.before.before.before.before in
     let stored = c.before.before.before.before.before.store64 in
     let m = s.args.m in
-    (s.requires.0, s.requires.1, mid_len 8 (8 + 8 * m) stored.new.0 (omega (arith, stored.auto.0, s.requires.2)) ∙ omega arith)
+    (s.requires.0, s.requires.1, mid_len 8 (8 + 8 * m) stored.new.dst (omega (arith, stored.auto.dst, s.requires.2)) ∙ omega arith)
 
-same_length : tie.Need-same-length
+same_length : tie.Need-shape_of-message
 same_length c = search rules
 
 returns : tie.Need-returns
@@ -51,11 +51,11 @@ returns c =
     let s = b.before.before.before.before.before.before in
     after_front s.args.message.now _ _ _ _ 8 (8 + 8 * s.args.m)
     (b.store64.ensures ∙ ap (λ (x : ℕ). put s.args.message.now 0 (bytes 8 x)) b.before.fold.ensures)
-    (c.before.before.fold-columns.ensures s.args.key c.before.before.before.before.before.table.ensures)
+    (c.before.before.fold_columns.ensures s.args.key c.before.before.before.before.before.table-t.ensures)
     refl s.requires.2 (omega arith)
 
-pub write-message-spec : {M : Type 1} → statement M
-write-message-spec =
+pub write_message_spec : {M : Type 1} → statement M
+write_message_spec =
     tie.close
     (tie.spec
     fold-requires

@@ -4,74 +4,74 @@ use Prim.Native.Nat.{◌*◌, ◌≤◌, ◌-◌}
 use Rattle.demo.proofs.agree.Statement.{statement}
 use Rattle.demo.proofs.agree.Tie as tie
 
-abbrev invariant-loop : tie.invariant-loop
+abbrev invariant-loop : tie.invariant-loop-j
 invariant-loop bytes choices mine theirs count₀ j₀ count j = (j ≤ bytes) × (count ≤ 8 * j)
 
-abbrev decreases-loop : tie.decreases-loop
+abbrev decreases-loop : tie.decreases-loop-j
 decreases-loop bytes choices mine theirs count₀ j₀ count j = bytes - j
 
-loop-holds : tie.Need-loop-init invariant-loop decreases-loop
+loop-holds : tie.Need-loop-j-init invariant-loop decreases-loop
 loop-holds c = search rules
 
-mul-mine-eight : tie.Need-overflow-mul-mine-eight invariant-loop decreases-loop
+mul-mine-eight : tie.Need-overflow_mul-mine_eight invariant-loop decreases-loop
 mul-mine-eight c = search rules
 
-mul-mine-eight-2 : tie.Need-overflow-mul-mine-eight-2 invariant-loop decreases-loop
+mul-mine-eight-2 : tie.Need-overflow_mul-mine_eight-in-loop-j invariant-loop decreases-loop
 mul-mine-eight-2 c = search rules
 
-add-mine-eight : tie.Need-overflow-add-mine-eight invariant-loop decreases-loop
+add-mine-eight : tie.Need-overflow_add-mine_eight invariant-loop decreases-loop
 add-mine-eight c = search rules
 
-sub-mine-eight : tie.Need-overflow-sub-mine-eight invariant-loop decreases-loop
+sub-mine-eight : tie.Need-slice_bounds-mine_eight-count invariant-loop decreases-loop
 sub-mine-eight c = search rules
 
-part-mine-eight-start : tie.Need-slice-bounds-mine-eight-start invariant-loop decreases-loop
+part-mine-eight-start : tie.Need-slice_bounds-mine_eight-start invariant-loop decreases-loop
 part-mine-eight-start c = search rules
 
-part-mine-eight-end : tie.Need-slice-bounds-mine-eight-end invariant-loop decreases-loop
+part-mine-eight-end : tie.Need-slice_bounds-mine_eight-end invariant-loop decreases-loop
 part-mine-eight-end c = search rules
 
-shared-slice-read-agree-in-eight : tie.Need-shared-slice-read-agree-in-eight invariant-loop decreases-loop
+shared-slice-read-agree-in-eight : tie.Need-bounds-choices-j invariant-loop decreases-loop
 shared-slice-read-agree-in-eight c = search rules
 
-mul-agree-in-eight : tie.Need-overflow-mul-agree-in-eight invariant-loop decreases-loop
+mul-agree-in-eight : tie.Need-overflow_mul-j invariant-loop decreases-loop
 mul-agree-in-eight c = search rules
 
-mul-agree-in-eight-2 : tie.Need-overflow-mul-agree-in-eight-2 invariant-loop decreases-loop
+mul-agree-in-eight-2 : tie.Need-overflow_mul-j-in-loop-j invariant-loop decreases-loop
 mul-agree-in-eight-2 c = search rules
 
-add-agree-in-eight : tie.Need-overflow-add-agree-in-eight invariant-loop decreases-loop
+add-agree-in-eight : tie.Need-overflow_add-j invariant-loop decreases-loop
 add-agree-in-eight c = search rules
 
-sub-agree-in-eight : tie.Need-overflow-sub-agree-in-eight invariant-loop decreases-loop
+sub-agree-in-eight : tie.Need-slice_bounds-agree_in_eight-count invariant-loop decreases-loop
 sub-agree-in-eight c = search rules
 
-part-agree-in-eight-start : tie.Need-slice-bounds-agree-in-eight-start invariant-loop decreases-loop
+part-agree-in-eight-start : tie.Need-slice_bounds-agree_in_eight-start invariant-loop decreases-loop
 part-agree-in-eight-start c = search rules
 
-part-agree-in-eight-end : tie.Need-slice-bounds-agree-in-eight-end invariant-loop decreases-loop
+part-agree-in-eight-end : tie.Need-slice_bounds-agree_in_eight-end invariant-loop decreases-loop
 part-agree-in-eight-end c = search rules
 
-agree-in-eight-requires : tie.Need-agree-in-eight-requires invariant-loop decreases-loop
+agree-in-eight-requires : tie.Need-agree_in_eight-count-requires invariant-loop decreases-loop
 agree-in-eight-requires c κs = search rules
 
-add-count : tie.Need-overflow-add-count invariant-loop decreases-loop
+add-count : tie.Need-overflow_add-count invariant-loop decreases-loop
 add-count c = search rules
 
-add-j : tie.Need-overflow-add-j invariant-loop decreases-loop
+add-j : tie.Need-overflow_add-j-in-loop-j invariant-loop decreases-loop
 add-j c = search rules
 
-loop-less : tie.Need-loop-smaller invariant-loop decreases-loop
+loop-less : tie.Need-loop-j-smaller invariant-loop decreases-loop
 loop-less c = search rules
 
-loop-again : tie.Need-loop-preserved invariant-loop decreases-loop
+loop-again : tie.Need-loop-j-preserved invariant-loop decreases-loop
 loop-again c = search rules
 
 returns : tie.Need-returns invariant-loop decreases-loop
 returns c = search rules
 
-pub agree-spec : {M : Type 1} → statement M
-agree-spec =
+pub agree_spec : {M : Type 1} → statement M
+agree_spec =
     tie.close
     (tie.spec
     invariant-loop

@@ -24,47 +24,47 @@ module _ {file s : Bor Range} (p : Places) where
   of_none (suc (suc (suc (suc (suc zero))))) n₁ n₂ n₃ n₄ n₅ h = absurd (n₅ refl)
   of_none (suc (suc (suc (suc (suc (suc kind)))))) n₁ n₂ n₃ n₄ n₅ h = h
 
-part-of-requires : tie.Need-part-of-requires
+part-of-requires : tie.Need-part_of-requires
 part-of-requires c κs = search rules
 
-returns : tie.Need-returns
-returns c = of-kind _ 1 c.before.if1.true c.part_of.ensures
+returns : tie.Need-returns-then-kind-eq1
+returns c = of-kind _ 1 c.before.if-kind-eq1.true c.part_of.ensures
 
-part-of-requires-2 : tie.Need-part-of-requires-2
+part-of-requires-2 : tie.Need-part_of-requires-then-kind-eq2
 part-of-requires-2 c κs = search rules
 
-returns-2 : tie.Need-returns-2
-returns-2 c = of-kind _ 2 c.before.if2.true c.part-of2.ensures
+returns-2 : tie.Need-returns-then-kind-eq2
+returns-2 c = of-kind _ 2 c.before.if-kind-eq2.true c.part_of-then-kind-eq2.ensures
 
-part-of-requires-3 : tie.Need-part-of-requires-3
+part-of-requires-3 : tie.Need-part_of-requires-then-kind-eq3
 part-of-requires-3 c κs = search rules
 
-returns-3 : tie.Need-returns-3
-returns-3 c = of-kind _ 3 c.before.if3.true c.part-of3.ensures
+returns-3 : tie.Need-returns-then-kind-eq3
+returns-3 c = of-kind _ 3 c.before.if-kind-eq3.true c.part_of-then-kind-eq3.ensures
 
-part-of-requires-4 : tie.Need-part-of-requires-4
+part-of-requires-4 : tie.Need-part_of-requires-then-kind-eq4
 part-of-requires-4 c κs = search rules
 
-returns-4 : tie.Need-returns-4
-returns-4 c = of-kind _ 4 c.before.if4.true c.part-of4.ensures
+returns-4 : tie.Need-returns-then-kind-eq4
+returns-4 c = of-kind _ 4 c.before.if-kind-eq4.true c.part_of-then-kind-eq4.ensures
 
-part-of-requires-5 : tie.Need-part-of-requires-5
+part-of-requires-5 : tie.Need-part_of-requires-then-kind-eq5
 part-of-requires-5 c κs = search rules
 
-returns-5 : tie.Need-returns-5
-returns-5 c = of-kind _ 5 c.before.if5.true c.part-of5.ensures
+returns-5 : tie.Need-returns-then-kind-eq5
+returns-5 c = of-kind _ 5 c.before.if-kind-eq5.true c.part_of-then-kind-eq5.ensures
 
-part-of-requires-6 : tie.Need-part-of-requires-6
+part-of-requires-6 : tie.Need-part_of-requires-2
 part-of-requires-6 c κs = search rules
 
-returns-6 : tie.Need-returns-6
+returns-6 : tie.Need-returns
 returns-6 c =
     let b = c.before in
-    of_none _ _ b.before.before.before.before.if1.false b.before.before.before.if2.false b.before.before.if3.false
-    b.before.if4.false b.if5.false c.part-of6.ensures
+    of_none _ _ b.before.before.before.before.if-kind-eq1.false b.before.before.before.if-kind-eq2.false b.before.before.if-kind-eq3.false
+    b.before.if-kind-eq4.false b.if-kind-eq5.false c.part_of-2.ensures
 
-pub body-at-spec : {M : Type 1} → statement M
-body-at-spec =
+pub body_at_spec : {M : Type 1} → statement M
+body_at_spec =
     tie.close
     (tie.spec
     part-of-requires

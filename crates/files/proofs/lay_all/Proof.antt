@@ -6,74 +6,74 @@ use Prim.Native.Nat.{◌≤◌, ◌-◌}
 use Rattle.files.proofs.lay_all.Statement.{statement}
 use Rattle.files.proofs.lay_all.Tie as tie
 
-abbrev invariant-loop : tie.invariant-loop
+abbrev invariant-loop : tie.invariant-loop-at
 invariant-loop file₀ parts at₀ file at = (at ≤ length parts) × (length file ≡ length file₀)
 
-abbrev decreases-loop : tie.decreases-loop
+abbrev decreases-loop : tie.decreases-loop-at
 decreases-loop file₀ parts at₀ file at = length parts - at
 
-loop-holds : tie.Need-loop-init invariant-loop decreases-loop
+loop-holds : tie.Need-loop-at-init invariant-loop decreases-loop
 loop-holds c = search rules
 
-sub-loop : tie.Need-overflow-sub-loop invariant-loop decreases-loop
+sub-loop : tie.Need-overflow_sub-parts invariant-loop decreases-loop
 sub-loop c = search rules
 
-add_body : tie.Need-overflow-add-body invariant-loop decreases-loop
+add_body : tie.Need-overflow_add-body invariant-loop decreases-loop
 add_body c = search rules
 
-add-load32 : tie.Need-overflow-add-load32 invariant-loop decreases-loop
+add-load32 : tie.Need-overflow_add-at invariant-loop decreases-loop
 add-load32 c = search rules
 
-load32-requires : tie.Need-load32-requires invariant-loop decreases-loop
+load32-requires : tie.Need-load32-n-requires invariant-loop decreases-loop
 load32-requires c κs = search rules
 
-cast-n : tie.Need-overflow-cast-n invariant-loop decreases-loop
+cast-n : tie.Need-overflow_cast-n invariant-loop decreases-loop
 cast-n c = search rules
 
-sub-if1 : tie.Need-overflow-sub-if1 invariant-loop decreases-loop
+sub-if1 : tie.Need-overflow_sub-parts-in-loop-at invariant-loop decreases-loop
 sub-if1 c = search rules
 
-same_length : tie.Need-same-length invariant-loop decreases-loop
+same_length : tie.Need-shape_of-file-then-parts-body invariant-loop decreases-loop
 same_length c = search rules
 
-returns : tie.Need-returns invariant-loop decreases-loop
+returns : tie.Need-returns-then-parts-body invariant-loop decreases-loop
 returns c = search rules
 
-add-end : tie.Need-overflow-add-end invariant-loop decreases-loop
+add-end : tie.Need-overflow_add-end invariant-loop decreases-loop
 add-end c = search rules
 
-load32-requires-2 : tie.Need-load32-requires-2 invariant-loop decreases-loop
+load32-requires-2 : tie.Need-load32-requires invariant-loop decreases-loop
 load32-requires-2 c κs = search rules
 
-cast-lay : tie.Need-overflow-cast-lay invariant-loop decreases-loop
+cast-lay : tie.Need-overflow_cast-load32 invariant-loop decreases-loop
 cast-lay c = search rules
 
-sub-lay : tie.Need-overflow-sub-lay invariant-loop decreases-loop
+sub-lay : tie.Need-slice_bounds-lay-count invariant-loop decreases-loop
 sub-lay c = search rules
 
-part-lay-start : tie.Need-slice-bounds-lay-start invariant-loop decreases-loop
+part-lay-start : tie.Need-slice_bounds-lay-start invariant-loop decreases-loop
 part-lay-start c = search rules
 
-part-lay-end : tie.Need-slice-bounds-lay-end invariant-loop decreases-loop
+part-lay-end : tie.Need-slice_bounds-lay-end invariant-loop decreases-loop
 part-lay-end c = search rules
 
 lay-requires : tie.Need-lay-requires invariant-loop decreases-loop
 lay-requires c κs = search rules
 
-loop-less : tie.Need-loop-smaller invariant-loop decreases-loop
+loop-less : tie.Need-loop-at-smaller invariant-loop decreases-loop
 loop-less c = search rules
 
-loop-again : tie.Need-loop-preserved invariant-loop decreases-loop
+loop-again : tie.Need-loop-at-preserved invariant-loop decreases-loop
 loop-again c = search rules
 
-same-length-2 : tie.Need-same-length-2 invariant-loop decreases-loop
+same-length-2 : tie.Need-shape_of-file invariant-loop decreases-loop
 same-length-2 c = search rules
 
-returns-2 : tie.Need-returns-2 invariant-loop decreases-loop
+returns-2 : tie.Need-returns invariant-loop decreases-loop
 returns-2 c = search rules
 
-pub lay-all-spec : {M : Type 1} → statement M
-lay-all-spec =
+pub lay_all_spec : {M : Type 1} → statement M
+lay_all_spec =
     tie.close
     (tie.spec
     invariant-loop

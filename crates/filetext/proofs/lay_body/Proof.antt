@@ -13,32 +13,26 @@ use Rattle.filetext.proofs.lay_body.Tie as tie
 abbrev left : List ℕ → List ℕ
 left body = named " length " (length body) ++ digest_line body
 
-room : (c : tie.After-lay-named)
-    → Room c.lay-named.new.0 c.lay-named.result (left c.before.before.before.before.before.args.body.now)
+room : (c : tie.After-lay_named-next)
+    → Room c.lay_named-next.new.out c.lay_named-next.result (left c.before.before.before.before.before.args.body.now)
 unfolding body_line
-room c = room_next c.before.before.before.before.before.requires c.lay-named.ensures
+room c = room_next c.before.before.before.before.before.requires c.lay_named-next.ensures
 
-slice-aggregate-lay-named : tie.Need-slice-aggregate-lay-named
-slice-aggregate-lay-named c = search rules
-
-lay-named-requires : tie.Need-lay-named-requires
+lay-named-requires : tie.Need-lay_named-next-requires
 unfolding body_line
 lay-named-requires c κs = room-first (left c.before.before.before.before.args.body.now) c.before.before.before.before.requires
 
-slice-aggregate-lay-named-2 : tie.Need-slice-aggregate-lay-named-2
-slice-aggregate-lay-named-2 c = search rules
-
-lay-named-requires-2 : tie.Need-lay-named-requires-2
+lay-named-requires-2 : tie.Need-lay_named-next-requires-2
 lay-named-requires-2 c κs =
     let kind = c.before.before.before.before in
     room-first (digest_line kind.before.before.before.before.before.args.body.now) (room kind)
 
-lay-digest-requires : tie.Need-lay-digest-requires
+lay-digest-requires : tie.Need-lay_digest-requires
 lay-digest-requires c κs =
     let size = c.before.before.before in
-    room_next (room size.before.before.before.before.before) size.lay-named2.ensures
+    room_next (room size.before.before.before.before.before) size.lay_named-next-2.ensures
 
-same_length : tie.Need-same-length
+same_length : tie.Need-shape_of-out
 same_length c = search rules
 
 returns : tie.Need-returns
@@ -47,16 +41,14 @@ returns c =
     let digest = c.before.before in
     let size = digest.before.before.before.before in
     let kind = size.before.before.before.before.before in
-    laid_more kind.before.before.before.before.before.requires kind.lay-named.ensures
-    (laid_more (room kind) size.lay-named2.ensures digest.lay-digest.ensures)
+    laid_more kind.before.before.before.before.before.requires kind.lay_named-next.ensures
+    (laid_more (room kind) size.lay_named-next-2.ensures digest.lay_digest.ensures)
 
-pub lay-body-spec : {M : Type 1} → statement M
-lay-body-spec =
+pub lay_body_spec : {M : Type 1} → statement M
+lay_body_spec =
     tie.close
     (tie.spec
-    slice-aggregate-lay-named
     lay-named-requires
-    slice-aggregate-lay-named-2
     lay-named-requires-2
     lay-digest-requires
     same_length

@@ -8,71 +8,71 @@ use Rattle.filetext.proofs.Digits.{Written, written_none, written-more, written_
 use Rattle.filetext.proofs.lay_decimal.Statement.{statement}
 use Rattle.filetext.proofs.lay_decimal.Tie as tie
 
-abbrev invariant-loop : tie.invariant-loop
+abbrev invariant-loop : tie.invariant-loop-rest
 invariant-loop out at x digits₀ i₀ rest₀ digits i rest = Written x digits i rest
 
-abbrev decreases-loop : tie.decreases-loop
+abbrev decreases-loop : tie.decreases-loop-rest
 decreases-loop out at x digits₀ i₀ rest₀ digits i rest = i
 
-loop-holds : tie.Need-loop-init invariant-loop decreases-loop
+loop-holds : tie.Need-loop-rest-init invariant-loop decreases-loop
 loop-holds c = written_none _ _ (search rules) c.before.ranges.x.fits
 
-sub-i : tie.Need-overflow-sub-i invariant-loop decreases-loop
+sub-i : tie.Need-overflow_sub-i invariant-loop decreases-loop
 sub-i c = search rules
 
-cast-digits : tie.Need-overflow-cast-digits invariant-loop decreases-loop
+cast-digits : tie.Need-overflow_cast-digits invariant-loop decreases-loop
 cast-digits c = search rules
 
-add-digits : tie.Need-overflow-add-digits invariant-loop decreases-loop
+add-digits : tie.Need-overflow_add-digits invariant-loop decreases-loop
 add-digits c = search rules
 
-array-write-digits : tie.Need-array-write-digits invariant-loop decreases-loop
+array-write-digits : tie.Need-bounds-digits-i invariant-loop decreases-loop
 array-write-digits c = search rules
 
-loop-less : tie.Need-loop-smaller invariant-loop decreases-loop
+loop-less : tie.Need-loop-rest-smaller invariant-loop decreases-loop
 loop-less c = search rules
 
-loop-again : tie.Need-loop-preserved invariant-loop decreases-loop
-loop-again c = written-more c.before.loop.invariant _ c.loop-test.true refl
+loop-again : tie.Need-loop-rest-preserved invariant-loop decreases-loop
+loop-again c = written-more c.before.loop-rest.invariant _ c.loop-rest-test.true refl
 
-sub-i-2 : tie.Need-overflow-sub-i-2 invariant-loop decreases-loop
+sub-i-2 : tie.Need-overflow_sub-i-2 invariant-loop decreases-loop
 sub-i-2 c = search rules
 
-cast-digits-2 : tie.Need-overflow-cast-digits-2 invariant-loop decreases-loop
+cast-digits-2 : tie.Need-overflow_cast-digits-2 invariant-loop decreases-loop
 cast-digits-2 c = search rules
 
-add-digits-2 : tie.Need-overflow-add-digits-2 invariant-loop decreases-loop
+add-digits-2 : tie.Need-overflow_add-digits-2 invariant-loop decreases-loop
 add-digits-2 c = search rules
 
-array-write-digits-2 : tie.Need-array-write-digits-2 invariant-loop decreases-loop
+array-write-digits-2 : tie.Need-bounds-digits-i-2 invariant-loop decreases-loop
 array-write-digits-2 c = search rules
 
-sub-lay : tie.Need-overflow-sub-lay invariant-loop decreases-loop
+sub-lay : tie.Need-slice_bounds-lay-count invariant-loop decreases-loop
 sub-lay c = search rules
 
-part-lay-start : tie.Need-slice-bounds-lay-start invariant-loop decreases-loop
+part-lay-start : tie.Need-slice_bounds-lay-start invariant-loop decreases-loop
 part-lay-start c = search rules
 
-part-lay-end : tie.Need-slice-bounds-lay-end invariant-loop decreases-loop
+part-lay-end : tie.Need-slice_bounds-lay-end invariant-loop decreases-loop
 part-lay-end c = simp length-set (omega arith)
 
 lay-requires : tie.Need-lay-requires invariant-loop decreases-loop
 lay-requires c κs =
-    let all = written_all c.before.before.before.before.loop.invariant _ c.before.before.before.loop-test.false refl in
+    let all = written_all c.before.before.before.before.loop-rest.invariant _ c.before.before.before.loop-rest-test.false refl in
     omega (arith, ap length all)
 
-same_length : tie.Need-same-length invariant-loop decreases-loop
+same_length : tie.Need-shape_of-out invariant-loop decreases-loop
 same_length c = search rules
 
 returns : tie.Need-returns invariant-loop decreases-loop
 returns c =
     let l = c.before.before in
     let d = l.before.before.before.before in
-    let all = written_all d.before.loop.invariant _ d.loop-test.false refl in
+    let all = written_all d.before.loop-rest.invariant _ d.loop-rest-test.false refl in
     laid_as all l.lay.ensures
 
-pub lay-decimal-spec : {M : Type 1} → statement M
-lay-decimal-spec =
+pub lay_decimal_spec : {M : Type 1} → statement M
+lay_decimal_spec =
     tie.close
     (tie.spec
     invariant-loop

@@ -15,35 +15,29 @@ abbrev left : List ℕ → List ℕ
 left digest = hex_of digest ++ codes "\n"
 
 room : (c : tie.After-digest)
-    → Room c.before.before.before.before.lay.new.0 c.before.before.before.before.lay.result (left c.digest.result)
+    → Room c.before.before.before.before.lay-next.new.out c.before.before.before.before.lay-next.result (left c.digest.result)
 unfolding digest_line
 room c =
     let name = c.before.before.before.before in
-    room_as (ap left (sym c.digest.ensures)) (room_next name.before.before.before.before.before.requires name.lay.ensures)
+    room_as (ap left (sym c.digest.ensures)) (room_next name.before.before.before.before.before.requires name.lay-next.ensures)
 
-slice-aggregate-lay : tie.Need-slice-aggregate-lay
-slice-aggregate-lay c = search rules
-
-lay-requires : tie.Need-lay-requires
+lay-requires : tie.Need-lay-next-requires
 unfolding digest_line
 lay-requires c κs = room-first (left (digest_of c.before.before.before.before.args.body.now)) c.before.before.before.before.requires
 
 digest-requires : tie.Need-digest-requires
 digest-requires c κs = search rules
 
-slice-aggregate-lay-hex : tie.Need-slice-aggregate-lay-hex
+slice-aggregate-lay-hex : tie.Need-slice_bounds-lay_hex-end
 slice-aggregate-lay-hex c = search rules
 
-lay-hex-requires : tie.Need-lay-hex-requires
+lay-hex-requires : tie.Need-lay_hex-next-requires
 lay-hex-requires c κs = room-first (codes "\n") (room c.before)
 
-slice-aggregate-lay-2 : tie.Need-slice-aggregate-lay-2
-slice-aggregate-lay-2 c = search rules
+lay-requires-2 : tie.Need-lay-requires
+lay-requires-2 c κs = room_next (room c.before.before.before.before.before.before) c.before.before.before.before.lay_hex-next.ensures
 
-lay-requires-2 : tie.Need-lay-requires-2
-lay-requires-2 c κs = room_next (room c.before.before.before.before.before.before) c.before.before.before.before.lay-hex.ensures
-
-same_length : tie.Need-same-length
+same_length : tie.Need-shape_of-out
 same_length c = search rules
 
 returns : tie.Need-returns
@@ -53,19 +47,17 @@ returns c =
     let hex = last.before.before.before.before.before in
     let digest = hex.before.before in
     let name = digest.before.before.before.before in
-    laid_more name.before.before.before.before.before.requires name.lay.ensures
-    (laid_as (ap left digest.digest.ensures) (laid_more (room digest) hex.lay-hex.ensures last.lay2.ensures))
+    laid_more name.before.before.before.before.before.requires name.lay-next.ensures
+    (laid_as (ap left digest.digest.ensures) (laid_more (room digest) hex.lay_hex-next.ensures last.lay.ensures))
 
-pub lay-digest-spec : {M : Type 1} → statement M
-lay-digest-spec =
+pub lay_digest_spec : {M : Type 1} → statement M
+lay_digest_spec =
     tie.close
     (tie.spec
-    slice-aggregate-lay
     lay-requires
     digest-requires
     slice-aggregate-lay-hex
     lay-hex-requires
-    slice-aggregate-lay-2
     lay-requires-2
     same_length
     returns)

@@ -14,14 +14,14 @@ turned : (none : Bool) → counted (not none) ≡ cond none 4 5
 turned true = refl
 turned false = refl
 
-is-there-requires : tie.Need-is-there-requires
+is-there-requires : tie.Need-is_there-requires
 is-there-requires c κs = search rules
 
-returns : tie.Need-returns
-returns c = sym (ap counted c.if1.true) ∙ ap counted c.before.is-there.ensures ∙ turned (eqb c.before.before.args.setup 0)
+returns : tie.Need-returns-then-is_there
+returns c = sym (ap counted c.if-is_there.true) ∙ ap counted c.before.is_there.ensures ∙ turned (eqb c.before.before.args.setup 0)
 
-returns-2 : tie.Need-returns-2
-returns-2 c = sym (ap counted c.if1.false) ∙ ap counted c.before.is-there.ensures ∙ turned (eqb c.before.before.args.setup 0)
+returns-2 : tie.Need-returns
+returns-2 c = sym (ap counted c.if-is_there.false) ∙ ap counted c.before.is_there.ensures ∙ turned (eqb c.before.before.args.setup 0)
 
-pub entries-with-spec : {M : Type 1} → statement M
-entries-with-spec = tie.close (tie.spec is-there-requires returns returns-2)
+pub entries_with_spec : {M : Type 1} → statement M
+entries_with_spec = tie.close (tie.spec is-there-requires returns returns-2)

@@ -11,45 +11,45 @@ use Rattle.filewriter.proofs.file_length.Statement.{statement}
 use Rattle.filewriter.proofs.file_length.Tie as tie
 
 -- the correction is no longer than the longest
-short : (c : tie.After-correction-length) → c.correction-length.result ≤ correction_length 1 most_blocks
+short : (c : tie.After-correction_length-correction) → c.correction_length-correction.result ≤ correction_length 1 most_blocks
 short c =
     let a = c.before.before.before in
-    omega (arith, c.correction-length.ensures, correction-most a.args.width a.args.blocks a.requires.0 a.requires.1)
+    omega (arith, c.correction_length-correction.ensures, correction-most a.args.width a.args.blocks a.requires.0 a.requires.1)
 
-few : (c : tie.After-entries-with) → c.entries_with.result ≤ 5
+few : (c : tie.After-entries_with) → c.entries_with.result ≤ 5
 few c =
     let setup = c.before.args.setup in
     omega (arith, c.entries_with.ensures, count_most (entries_with setup) (entries-count setup))
 
-entries-with-requires : tie.Need-entries-with-requires
+entries-with-requires : tie.Need-entries_with-requires
 entries-with-requires c κs = search rules
 
-contents-length-requires : tie.Need-contents-length-requires
+contents-length-requires : tie.Need-contents_length-contents-requires
 contents-length-requires c κs = few c
 
-correction-length-requires : tie.Need-correction-length-requires
+correction-length-requires : tie.Need-correction_length-correction-requires
 correction-length-requires c κs = search rules
 
-add-result : tie.Need-overflow-add-result
+add-result : tie.Need-overflow_add-result
 add-result c = search rules
 
-add-result-2 : tie.Need-overflow-add-result-2
+add-result-2 : tie.Need-overflow_add-result-2
 add-result-2 c = omega (arith, short c)
 
-add-result-3 : tie.Need-overflow-add-result-3
+add-result-3 : tie.Need-overflow_add-result-3
 add-result-3 c = omega (arith, short c)
 
-add-result-4 : tie.Need-overflow-add-result-4
+add-result-4 : tie.Need-overflow_add-result-4
 add-result-4 c = omega (arith, short c)
 
-add-result-5 : tie.Need-overflow-add-result-5
-add-result-5 c = omega (arith, short c, few c.before.before, c.before.contents-length.ensures)
+add-result-5 : tie.Need-overflow_add-result-5
+add-result-5 c = omega (arith, short c, few c.before.before, c.before.contents_length-contents.ensures)
 
 returns : tie.Need-returns
 returns c = search rules
 
-pub file-length-spec : {M : Type 1} → statement M
-file-length-spec =
+pub file_length_spec : {M : Type 1} → statement M
+file_length_spec =
     tie.close
     (tie.spec
     entries-with-requires

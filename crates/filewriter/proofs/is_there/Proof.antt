@@ -6,5 +6,5 @@ use Rattle.filewriter.proofs.is_there.Tie as tie
 returns : tie.Need-returns
 returns c = refl
 
-pub is-there-spec : {M : Type 1} → statement M
-is-there-spec = tie.close (tie.spec returns)
+pub is_there_spec : {M : Type 1} → statement M
+is_there_spec = tie.close (tie.spec returns)

@@ -17,117 +17,117 @@ use Rattle.filewriter.proofs.lay_contents.Tie as tie
 abbrev entries : (n : ℕ) (lengths : List ℕ) → ℕ → List ℕ
 entries n lengths e = entry_in n (size_in n lengths) e
 
-abbrev invariant-loop : tie.invariant-loop
+abbrev invariant-loop : tie.invariant-loop-e
 invariant-loop file₀ n lengths at₀ place₀ e₀ file at place e =
     (e ≤ n) × (place ≡ place_in n (size_in n lengths) e) × Laid file₀ at₀ (concat e (entries n lengths)) file at
 
-abbrev decreases-loop : tie.decreases-loop
+abbrev decreases-loop : tie.decreases-loop-e
 decreases-loop file₀ n lengths at₀ place₀ e₀ file at place e = n - e
 
 -- the count is laid, and the entries have room after it
-counted : (c : tie.After-lay invariant-loop decreases-loop)
+counted : (c : tie.After-lay-at invariant-loop decreases-loop)
     → Laid c.before.before.before.before.before.args.file.now 0 (bytes 4 c.before.before.before.before.before.args.n)
-    c.lay.new.0 c.lay.result
-counted c = laid_as c.before.before.bytes32.ensures c.lay.ensures
+    c.lay-at.new.out c.lay-at.result
+counted c = laid_as c.before.before.bytes32.ensures c.lay-at.ensures
 
-room : (c : tie.After-lay invariant-loop decreases-loop)
+room : (c : tie.After-lay-at invariant-loop decreases-loop)
     → let a = c.before.before.before.before.before.args in
-    Room c.lay.new.0 c.lay.result (concat a.n (entries a.n a.t3))
+    Room c.lay-at.new.out c.lay-at.result (concat a.n (entries a.n a.lengths))
 room c = room_next c.before.before.before.before.before.requires.0 (counted c)
 
-cast-bytes32 : tie.Need-overflow-cast-bytes32 invariant-loop decreases-loop
+cast-bytes32 : tie.Need-overflow_cast-n invariant-loop decreases-loop
 cast-bytes32 c = search rules
 
 bytes32-requires : tie.Need-bytes32-requires invariant-loop decreases-loop
 bytes32-requires c κs = search rules
 
-slice-aggregate-lay : tie.Need-slice-aggregate-lay invariant-loop decreases-loop
+slice-aggregate-lay : tie.Need-slice_bounds-lay-end invariant-loop decreases-loop
 slice-aggregate-lay c = search rules
 
-lay-requires : tie.Need-lay-requires invariant-loop decreases-loop
+lay-requires : tie.Need-lay-at-requires invariant-loop decreases-loop
 lay-requires c κs = search rules
 
-contents-length-requires : tie.Need-contents-length-requires invariant-loop decreases-loop
+contents-length-requires : tie.Need-contents_length-place-requires invariant-loop decreases-loop
 contents-length-requires c κs = search rules
 
-loop-holds : tie.Need-loop-init invariant-loop decreases-loop
+loop-holds : tie.Need-loop-e-init invariant-loop decreases-loop
 unfolding concat total
-loop-holds c = (omega arith, omega (arith, c.contents-length.ensures), laid_none _ _)
+loop-holds c = (omega arith, omega (arith, c.contents_length-place.ensures), laid_none _ _)
 
-add-kind : tie.Need-overflow-add-kind invariant-loop decreases-loop
+add-kind : tie.Need-overflow_add-kind invariant-loop decreases-loop
 add-kind c = search rules
 
-sub-kind : tie.Need-overflow-sub-kind invariant-loop decreases-loop
+sub-kind : tie.Need-overflow_sub-kind invariant-loop decreases-loop
 sub-kind c = search rules
 
-sub-length : tie.Need-overflow-sub-length invariant-loop decreases-loop
+sub-length : tie.Need-overflow_sub-length invariant-loop decreases-loop
 sub-length c = search rules
 
-mul-length : tie.Need-overflow-mul-length invariant-loop decreases-loop
+mul-length : tie.Need-offset_bounds-lengths-kind invariant-loop decreases-loop
 mul-length c = search rules
 
-array-read-length : tie.Need-array-read-length invariant-loop decreases-loop
+array-read-length : tie.Need-bounds-lengths-kind invariant-loop decreases-loop
 array-read-length c = search rules
 
-lay-entry-requires : tie.Need-lay-entry-requires invariant-loop decreases-loop
+lay-entry-requires : tie.Need-lay_entry-at-requires invariant-loop decreases-loop
 lay-entry-requires c κs =
     let w = c.before.before in
     let a = w.before.before.before.before.before.before.before.before.before in
     let n = a.args.n in
-    let size = size_in n a.args.t3 in
-    let e = w.loop.e in
+    let size = size_in n a.args.lengths in
+    let e = w.loop-e.e in
     let within = total-room n size e (omega arith) in (
-      room_as (ap (λ (place : ℕ). bytes 4 (kind_of n e) ++ (bytes 4 place ++ bytes 4 (size e))) (sym w.loop.invariant.1))
-          (room_at (entries n a.args.t3) n (room w.before.before.before.before) w.loop.invariant.2 (omega arith)),
+      room_as (ap (λ (place : ℕ). bytes 4 (kind_of n e) ++ (bytes 4 place ++ bytes 4 (size e))) (sym w.loop-e.invariant.1))
+          (room_at (entries n a.args.lengths) n (room w.before.before.before.before) w.loop-e.invariant.2 (omega arith)),
       omega arith,
-      omega (arith, w.loop.invariant.1, within, a.requires.3),
+      omega (arith, w.loop-e.invariant.1, within, a.requires.3),
       omega (arith, within, a.requires.3),
     )
 
-add-place : tie.Need-overflow-add-place invariant-loop decreases-loop
+add-place : tie.Need-overflow_add-place invariant-loop decreases-loop
 add-place c =
     let w = c.before.before.before.before.before in
     let a = w.before.before.before.before.before.before.before.before.before in
-    let size = size_in a.args.n a.args.t3 in
-    omega (arith, w.loop.invariant.1, total-room a.args.n size w.loop.e (omega arith), a.requires.3)
+    let size = size_in a.args.n a.args.lengths in
+    omega (arith, w.loop-e.invariant.1, total-room a.args.n size w.loop-e.e (omega arith), a.requires.3)
 
-add-e : tie.Need-overflow-add-e invariant-loop decreases-loop
+add-e : tie.Need-overflow_add-e invariant-loop decreases-loop
 add-e c = search rules
 
-loop-less : tie.Need-loop-smaller invariant-loop decreases-loop
+loop-less : tie.Need-loop-e-smaller invariant-loop decreases-loop
 loop-less c = search rules
 
-loop-again : tie.Need-loop-preserved invariant-loop decreases-loop
+loop-again : tie.Need-loop-e-preserved invariant-loop decreases-loop
 loop-again c =
     let w = c.before.before.before.before.before in
     let a = w.before.before.before.before.before.before.before.before.before in
     let n = a.args.n in
-    let size = size_in n a.args.t3 in
-    let e = w.loop.e in (
+    let size = size_in n a.args.lengths in
+    let e = w.loop-e.e in (
       omega arith,
-      omega (arith, w.loop.invariant.1, total-more e size),
-      laid-at (entries n a.args.t3) n (room w.before.before.before.before) w.loop.invariant.2 (omega arith)
-          (laid_as (ap (λ (place : ℕ). bytes 4 (kind_of n e) ++ (bytes 4 place ++ bytes 4 (size e))) w.loop.invariant.1) c.before.before.lay-entry.ensures),
+      omega (arith, w.loop-e.invariant.1, total-more e size),
+      laid-at (entries n a.args.lengths) n (room w.before.before.before.before) w.loop-e.invariant.2 (omega arith)
+          (laid_as (ap (λ (place : ℕ). bytes 4 (kind_of n e) ++ (bytes 4 place ++ bytes 4 (size e))) w.loop-e.invariant.1) c.before.before.lay_entry-at.ensures),
     )
 
-same_length : tie.Need-same-length invariant-loop decreases-loop
+same_length : tie.Need-shape_of-file invariant-loop decreases-loop
 same_length c =
     let w = c.before in
     let a = w.before.before.before.before.before.before.before.before.before in
     let laid = w.before.before.before.before in
-    laid_kept (entries a.args.n a.args.t3) a.args.n (room laid) w.loop.invariant.2 w.loop.invariant.0
+    laid_kept (entries a.args.n a.args.lengths) a.args.n (room laid) w.loop-e.invariant.2 w.loop-e.invariant.0
     ∙ laid-length (room-first _ a.requires.0) (counted laid)
 
 returns : tie.Need-returns invariant-loop decreases-loop
 returns c =
     let w = c.before in
     let a = w.before.before.before.before.before.before.before.before.before in
-    let all : w.loop.e ≡ a.args.n = omega arith in
+    let all : w.loop-e.e ≡ a.args.n = omega arith in
     laid_more a.requires.0 (counted w.before.before.before.before)
-    (laid_as (ap (λ (e : ℕ). concat e (entries a.args.n a.args.t3)) all) w.loop.invariant.2)
+    (laid_as (ap (λ (e : ℕ). concat e (entries a.args.n a.args.lengths)) all) w.loop-e.invariant.2)
 
-pub lay-contents-spec : {M : Type 1} → statement M
-lay-contents-spec =
+pub lay_contents_spec : {M : Type 1} → statement M
+lay_contents_spec =
     tie.close
     (tie.spec
     invariant-loop

@@ -4,38 +4,38 @@ use Rattle.words.proofs.Pieces.{laid_as, laid_more}
 use Rattle.filewriter.proofs.lay_head.Statement.{statement}
 use Rattle.filewriter.proofs.lay_head.Tie as tie
 
-cast-t11 : tie.Need-overflow-cast-t11
+cast-t11 : tie.Need-overflow_cast-width
 cast-t11 c = search rules
 
-cast-t13 : tie.Need-overflow-cast-t13
+cast-t13 : tie.Need-overflow_cast-blocks
 cast-t13 c = search rules
 
-slice-aggregate-lay : tie.Need-slice-aggregate-lay
+slice-aggregate-lay : tie.Need-slice_bounds-lay-end
 slice-aggregate-lay c = search rules
 
-lay-requires : tie.Need-lay-requires
+lay-requires : tie.Need-lay-next-requires
 lay-requires c κs = search rules
 
 bytes64-requires : tie.Need-bytes64-requires
 bytes64-requires c κs = search rules
 
-slice-aggregate-lay-2 : tie.Need-slice-aggregate-lay-2
+slice-aggregate-lay-2 : tie.Need-slice_bounds-lay-end-2
 slice-aggregate-lay-2 c = search rules
 
-lay-requires-2 : tie.Need-lay-requires-2
+lay-requires-2 : tie.Need-lay-requires
 lay-requires-2 c κs = search rules
 
-same_length : tie.Need-same-length
+same_length : tie.Need-shape_of-file
 same_length c = search rules
 
 returns : tie.Need-returns
 returns c =
     let batch = c.before.before in
     let others = batch.before.before.before.before.before.before in
-    laid_more others.before.before.before.before.requires others.lay.ensures (laid_as batch.before.before.bytes64.ensures batch.lay2.ensures)
+    laid_more others.before.before.before.before.requires others.lay-next.ensures (laid_as batch.before.before.bytes64.ensures batch.lay.ensures)
 
-pub lay-head-spec : {M : Type 1} → statement M
-lay-head-spec =
+pub lay_head_spec : {M : Type 1} → statement M
+lay_head_spec =
     tie.close
     (tie.spec
     cast-t11

@@ -22,34 +22,34 @@ values s = head_with s.args.width s.args.blocks s.args.batch
 abbrev bodies : tie.Start → Bodies
 bodies s = bodies_with s.args.setup.now s.args.correction.now s.args.key.now s.args.check.now
 
-given : (c : tie.After-write-answer)
+given : (c : tie.After-write_answer-answer)
     → let s = c.before.before.before.before.before.before in
-    c.write-answer.result ≡ write_answer (values s) (bodies s) (length s.args.file.now)
+    c.write_answer-answer.result ≡ write_answer (values s) (bodies s) (length s.args.file.now)
 unfolding write_answer
-given c = c.write-answer.ensures
+given c = c.write_answer-answer.ensures
 
-write-answer-requires : tie.Need-write-answer-requires
+write-answer-requires : tie.Need-write_answer-answer-requires
 write-answer-requires c κs = search rules
 
-is-done-requires : tie.Need-is-done-requires
+is-done-requires : tie.Need-is_done-requires
 is-done-requires c κs = search rules
 
-lay-file-requires : tie.Need-lay-file-requires
+lay-file-requires : tie.Need-lay_file-requires
 lay-file-requires c κs =
     let answered = c.before.before.before in
     let s = answered.before.before.before.before.before.before in
     let h = values s in
     let b = bodies s in
     let done : is_done (write_answer h b (length s.args.file.now)) ≡ true
-    = sym (ap is_done (given answered)) ∙ sym c.before.before.is-done.ensures ∙ c.before.if1.true in
+    = sym (ap is_done (given answered)) ∙ sym c.before.before.is_done.ensures ∙ c.before.if-is_done.true in
     let told = write-tells h b (length s.args.file.now) done in
     let long : length s.args.file.now ≡ length (file_of h b) = told.exact ∙ sym (file-long h b told.allowed) in
     (long, omega (arith, long, allowed-small (head_bytes head_length h) h b (omega (arith, head_bytes-length head_length h (omega arith))) told.allowed))
 
-same_length : tie.Need-same-length
+same_length : tie.Need-shape_of-file
 same_length c = search rules
 
-returns : tie.Need-returns
+returns : tie.Need-returns-then-is_done
 returns c =
     let laid = c.before.before in
     let answered = laid.before.before.before.before in
@@ -57,20 +57,20 @@ returns c =
     record {
       answered = given answered;
       written =
-          laid.lay-file.ensures
-          ∙ sym (new-when answered.write-answer.result (file_of (values s) (bodies s)) s.args.file.now
-          (sym laid.before.before.before.is-done.ensures ∙ laid.before.before.if1.true));
+          laid.lay_file.ensures
+          ∙ sym (new-when answered.write_answer-answer.result (file_of (values s) (bodies s)) s.args.file.now
+          (sym laid.before.before.before.is_done.ensures ∙ laid.before.before.if-is_done.true));
     }
 
-returns-2 : tie.Need-returns-2
+returns-2 : tie.Need-returns-else-is_done
 returns-2 c =
     let answered = c.before.before in
     let s = answered.before.before.before.before.before.before in
     record {
       answered = given answered;
       written =
-          sym (old-when answered.write-answer.result (file_of (values s) (bodies s)) s.args.file.now
-          (sym c.before.is-done.ensures ∙ c.if1.false));
+          sym (old-when answered.write_answer-answer.result (file_of (values s) (bodies s)) s.args.file.now
+          (sym c.before.is_done.ensures ∙ c.if-is_done.false));
     }
 
 pub write_spec : {M : Type 1} → statement M

@@ -3,28 +3,28 @@ use borrow.Author.Rules.{rules}
 use Rattle.foldprint.proofs.main.Statement.{statement}
 use Rattle.foldprint.proofs.main.Tie as tie
 
-slice-aggregate-read-full : tie.Need-slice-aggregate-read-full
+slice-aggregate-read-full : tie.Need-slice_bounds-read_full-end
 slice-aggregate-read-full c = search rules
 
-read-full-requires : tie.Need-read-full-requires
+read-full-requires : tie.Need-read_full-n-requires
 read-full-requires c κs = search rules
 
-array-share-prefix-buffer : tie.Need-array-share-prefix-buffer
+array-share-prefix-buffer : tie.Need-slice_bounds-buffer-end
 array-share-prefix-buffer c = search rules
 
-slice-aggregate-line : tie.Need-slice-aggregate-line
+slice-aggregate-line : tie.Need-slice_bounds-line-end
 slice-aggregate-line c = search rules
 
-line-requires : tie.Need-line-requires
+line-requires : tie.Need-line-line-requires
 line-requires c κs = search rules
 
-array-share-prefix-bytes : tie.Need-array-share-prefix-bytes
-array-share-prefix-bytes c = holds-within _ _ c.before.line.ensures
+array-share-prefix-bytes : tie.Need-slice_bounds-bytes-end
+array-share-prefix-bytes c = holds-within _ _ c.before.line-line.ensures
 
-slice-aggregate-write-all : tie.Need-slice-aggregate-write-all
-slice-aggregate-write-all c = holds-counted _ _ c.before.before.line.ensures
+slice-aggregate-write-all : tie.Need-slice_bounds-write_all-end
+slice-aggregate-write-all c = holds-counted _ _ c.before.before.line-line.ensures
 
-write-all-requires : tie.Need-write-all-requires
+write-all-requires : tie.Need-write_all-requires
 write-all-requires c κs = search rules
 
 returns : tie.Need-returns

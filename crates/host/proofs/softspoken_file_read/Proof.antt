@@ -26,18 +26,18 @@ over n h p end =
       end = end;
     }
 
-find-requires : tie.Need-find-requires
+find-requires : tie.Need-find-found-requires
 find-requires c κs = search rules
 
-number-of-requires : tie.Need-number-of-requires
+number-of-requires : tie.Need-number_of-requires
 number-of-requires c κs = search rules
 
 returns : tie.Need-returns
 returns c =
     let file = c.before.before.before.before.before.args.file.now in
-    let found = c.before.before.before.find.ensures in
-    ap₂ (λ (h : FileHead) (p : Places). over c.number_of_lem.result h p (length file)) found.headed found.placed
-    ∙ ap (λ (n : ℕ). over n (head_found file) (places_found file) (length file)) (c.number_of_lem.ensures ∙ ap number found.answered)
+    let found = c.before.before.before.find-found.ensures in
+    ap₂ (λ (h : FileHead) (p : Places). over c.number_of.result h p (length file)) found.headed found.placed
+    ∙ ap (λ (n : ℕ). over n (head_found file) (places_found file) (length file)) (c.number_of.ensures ∙ ap number found.answered)
 
-pub softspoken-file-read-spec : {M : Type 1} → statement M
-softspoken-file-read-spec = tie.close (tie.spec find-requires number-of-requires returns)
+pub softspoken_file_read_spec : {M : Type 1} → statement M
+softspoken_file_read_spec = tie.close (tie.spec find-requires number-of-requires returns)

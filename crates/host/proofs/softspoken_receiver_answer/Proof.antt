@@ -5,17 +5,17 @@ use base.Logic.{id⊢}
 use mir.Syntax.{w64}
 use Rattle.host.proofs.Params.{number, shared, mutable}
 use Rattle.host.proofs.Thin.{thin-meets}
-use Rattle.host.specs.contracts.numbered.receiver_answer as twin
-use Rattle.host.proofs.numbered.receiver_answer.Symbol as twin-code
-use Rattle.host.proofs.numbered.receiver_answer.Met as twin-met
+use Rattle.host.specs.contracts.numbered.receiver_answer-s as twin
+use Rattle.host.proofs.numbered.receiver_answer-s.Symbol as twin-code
+use Rattle.host.proofs.numbered.receiver_answer-s.Met as twin-met
 use Rattle.host.specs.contracts.softspoken_receiver_answer as step
 use Rattle.host.proofs.softspoken_receiver_answer.Code as step-code
 use Rattle.host.specs.contracts.softspoken_receiver_answer.Key.{name}
 use Rattle.host.proofs.softspoken_receiver_answer.Statement.{statement}
 
-pub softspoken-receiver-answer-spec : {M : Type 1} → statement M
+pub softspoken_receiver_answer_spec : {M : Type 1} → statement M
 unfolding step-code.routine
-softspoken-receiver-answer-spec 𝓤 𝓛 𝓜 𝓡 =
+softspoken_receiver_answer_spec 𝓤 𝓛 𝓜 𝓡 =
     thin-meets 𝓛 𝓜 𝓡 (number w64 ∷ shared ∷ shared ∷ mutable ∷ mutable ∷ [])
     (λ κs a. (step.clauses 𝓛 𝓜.mem 𝓡.run κs a).ensures tt)
     (λ κs a. (twin.clauses 𝓛 𝓜.mem 𝓡.run κs a).ensures tt)

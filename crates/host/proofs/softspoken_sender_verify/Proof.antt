@@ -5,17 +5,17 @@ use base.Logic.{id⊢}
 use mir.Syntax.{w64}
 use Rattle.host.proofs.Params.{number, shared, mutable}
 use Rattle.host.proofs.Thin.{thin-meets}
-use Rattle.host.specs.contracts.numbered.sender_verify as twin
-use Rattle.host.proofs.numbered.sender_verify.Symbol as twin-code
-use Rattle.host.proofs.numbered.sender_verify.Met as twin-met
+use Rattle.host.specs.contracts.numbered.sender_verify-s as twin
+use Rattle.host.proofs.numbered.sender_verify-s.Symbol as twin-code
+use Rattle.host.proofs.numbered.sender_verify-s.Met as twin-met
 use Rattle.host.specs.contracts.softspoken_sender_verify as step
 use Rattle.host.proofs.softspoken_sender_verify.Code as step-code
 use Rattle.host.specs.contracts.softspoken_sender_verify.Key.{name}
 use Rattle.host.proofs.softspoken_sender_verify.Statement.{statement}
 
-pub softspoken-sender-verify-spec : {M : Type 1} → statement M
+pub softspoken_sender_verify_spec : {M : Type 1} → statement M
 unfolding step-code.routine
-softspoken-sender-verify-spec 𝓤 𝓛 𝓜 𝓡 =
+softspoken_sender_verify_spec 𝓤 𝓛 𝓜 𝓡 =
     thin-meets 𝓛 𝓜 𝓡 (number w64 ∷ shared ∷ shared ∷ shared ∷ mutable ∷ [])
     (λ κs a. (step.clauses 𝓛 𝓜.mem 𝓡.run κs a).ensures tt)
     (λ κs a. (twin.clauses 𝓛 𝓜.mem 𝓡.run κs a).ensures tt)

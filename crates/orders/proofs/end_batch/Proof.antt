@@ -10,25 +10,25 @@ use borrow.Author.Rules.{rules}
 use Rattle.orders.proofs.end_batch.Statement.{statement}
 use Rattle.orders.proofs.end_batch.Tie as tie
 
-open-session-requires : tie.Need-open-session-requires
+open-session-requires : tie.Need-open_session-a-requires
 open-session-requires c κs = search rules
 
-next-requires : tie.Need-next-requires
+next-requires : tie.Need-next-a-requires
 next-requires c κs = search rules
 
-next-requires-2 : tie.Need-next-requires-2
+next-requires-2 : tie.Need-next-a-requires-2
 next-requires-2 c κs = search rules
 
-blocks-allowed-requires : tie.Need-blocks-allowed-requires
+blocks-allowed-requires : tie.Need-blocks_allowed-requires
 blocks-allowed-requires c κs = search rules
 
-next-requires-3 : tie.Need-next-requires-3
+next-requires-3 : tie.Need-next-a-requires-3
 next-requires-3 c κs = search rules
 
-key-usable-requires : tie.Need-key-usable-requires
+key-usable-requires : tie.Need-key_usable-requires
 key-usable-requires c κs = search rules
 
-next-requires-4 : tie.Need-next-requires-4
+next-requires-4 : tie.Need-next-requires
 next-requires-4 c κs = search rules
 
 returns : tie.Need-returns
@@ -39,11 +39,11 @@ returns c =
     ∷ (blocks_allowed a.r.blocks, Blocks)
     ∷ (key_usable a.key, Key)
     ∷ [] in
-    let steps : c.next4.result ≡ chain (first_of (session_order a.r.width)) rest = cc in
+    let steps : c.next.result ≡ chain (first_of (session_order a.r.width)) rest = cc in
     steps ∙ chain-onward (session_order a.r.width) rest refl refl
 
-pub end-batch-spec : {M : Type 1} → statement M
-end-batch-spec =
+pub end_batch_spec : {M : Type 1} → statement M
+end_batch_spec =
     tie.close
     (tie.spec
     open-session-requires

@@ -10,22 +10,22 @@ use borrow.Author.Rules.{rules}
 use Rattle.orders.proofs.open_batch.Statement.{statement}
 use Rattle.orders.proofs.open_batch.Tie as tie
 
-open-session-requires : tie.Need-open-session-requires
+open-session-requires : tie.Need-open_session-a-requires
 open-session-requires c κs = search rules
 
-next-requires : tie.Need-next-requires
+next-requires : tie.Need-next-a-requires
 next-requires c κs = search rules
 
-batch-follows-requires : tie.Need-batch-follows-requires
+batch-follows-requires : tie.Need-batch_follows-requires
 batch-follows-requires c κs = search rules
 
-next-requires-2 : tie.Need-next-requires-2
+next-requires-2 : tie.Need-next-a-requires-2
 next-requires-2 c κs = search rules
 
-blocks-allowed-requires : tie.Need-blocks-allowed-requires
+blocks-allowed-requires : tie.Need-blocks_allowed-requires
 blocks-allowed-requires c κs = search rules
 
-next-requires-3 : tie.Need-next-requires-3
+next-requires-3 : tie.Need-next-requires
 next-requires-3 c κs = search rules
 
 returns : tie.Need-returns
@@ -35,11 +35,11 @@ returns c =
     ∷ (batch_follows a.r.last a.batch, Batch)
     ∷ (blocks_allowed a.blocks, Blocks)
     ∷ [] in
-    let steps : c.next3.result ≡ chain (first_of (session_order a.r.width)) rest = cc in
+    let steps : c.next.result ≡ chain (first_of (session_order a.r.width)) rest = cc in
     steps ∙ chain-onward (session_order a.r.width) rest refl refl
 
-pub open-batch-spec : {M : Type 1} → statement M
-open-batch-spec =
+pub open_batch_spec : {M : Type 1} → statement M
+open_batch_spec =
     tie.close
     (tie.spec
     open-session-requires

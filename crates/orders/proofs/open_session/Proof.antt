@@ -8,7 +8,7 @@ use borrow.Author.Rules.{rules}
 use Rattle.orders.proofs.open_session.Statement.{statement}
 use Rattle.orders.proofs.open_session.Tie as tie
 
-width-allowed-requires : tie.Need-width-allowed-requires
+width-allowed-requires : tie.Need-width_allowed-requires
 width-allowed-requires c κs = search rules
 
 next-requires : tie.Need-next-requires
@@ -16,7 +16,7 @@ next-requires c κs = search rules
 
 returns : tie.Need-returns
 unfolding first_of
-returns c = c.next.ensures ∙ ap (λ (b : Bool). next Done b Width) c.before.width-allowed.ensures
+returns c = c.next.ensures ∙ ap (λ (b : Bool). next Done b Width) c.before.width_allowed.ensures
 
-pub open-session-spec : {M : Type 1} → statement M
-open-session-spec = tie.close (tie.spec width-allowed-requires next-requires returns)
+pub open_session_spec : {M : Type 1} → statement M
+open_session_spec = tie.close (tie.spec width-allowed-requires next-requires returns)

@@ -9,28 +9,28 @@ use borrow.Author.Rules.{rules}
 use Rattle.orders.proofs.receiver_answer.Statement.{statement}
 use Rattle.orders.proofs.receiver_answer.Tie as tie
 
-end-batch-requires : tie.Need-end-batch-requires
+end-batch-requires : tie.Need-end_batch-a-requires
 end-batch-requires c κs = search rules
 
-column-length-requires : tie.Need-column-length-requires
+column-length-requires : tie.Need-column_length-requires
 column-length-requires c κs = search rules
 
-has-requires : tie.Need-has-requires
+has-requires : tie.Need-has-a-requires
 has-requires c κs = search rules
 
-table-length-requires : tie.Need-table-length-requires
+table-length-requires : tie.Need-table_length-requires
 table-length-requires c κs = search rules
 
-has-requires-2 : tie.Need-has-requires-2
+has-requires-2 : tie.Need-has-a-requires-2
 has-requires-2 c κs = search rules
 
-has-requires-3 : tie.Need-has-requires-3
+has-requires-3 : tie.Need-has-a-requires-3
 has-requires-3 c κs = search rules
 
-receiver-pads-length-requires : tie.Need-receiver-pads-length-requires
+receiver-pads-length-requires : tie.Need-receiver_pads_length-requires
 receiver-pads-length-requires c κs = search rules
 
-has-requires-4 : tie.Need-has-requires-4
+has-requires-4 : tie.Need-has-requires
 has-requires-4 c κs = search rules
 
 returns : tie.Need-returns
@@ -41,11 +41,11 @@ returns c =
     ∷ has a.message check_message_length
     ∷ has a.pads (receiver_pads_length a.r.blocks)
     ∷ [] in
-    let steps : c.has4.result ≡ chain (first_of (end_order a.r a.key)) rest = cc in
+    let steps : c.has.result ≡ chain (first_of (end_order a.r a.key)) rest = cc in
     steps ∙ chain-onward (end_order a.r a.key) rest refl refl
 
-pub receiver-answer-spec : {M : Type 1} → statement M
-receiver-answer-spec =
+pub receiver_answer_spec : {M : Type 1} → statement M
+receiver_answer_spec =
     tie.close
     (tie.spec
     end-batch-requires

@@ -9,19 +9,19 @@ use borrow.Author.Rules.{rules}
 use Rattle.orders.proofs.receiver_setup.Statement.{statement}
 use Rattle.orders.proofs.receiver_setup.Tie as tie
 
-open-session-requires : tie.Need-open-session-requires
+open-session-requires : tie.Need-open_session-a-requires
 open-session-requires c κs = search rules
 
-roots-length-requires : tie.Need-roots-length-requires
+roots-length-requires : tie.Need-roots_length-requires
 roots-length-requires c κs = search rules
 
-has-requires : tie.Need-has-requires
+has-requires : tie.Need-has-a-requires
 has-requires c κs = search rules
 
-has-requires-2 : tie.Need-has-requires-2
+has-requires-2 : tie.Need-has-a-requires-2
 has-requires-2 c κs = search rules
 
-has-requires-3 : tie.Need-has-requires-3
+has-requires-3 : tie.Need-has-requires
 has-requires-3 c κs = search rules
 
 returns : tie.Need-returns
@@ -31,11 +31,11 @@ returns c =
     ∷ has a.pads receiver_base_pads_length
     ∷ has a.message setup_message_length
     ∷ [] in
-    let steps : c.has3.result ≡ chain (first_of (session_order a.width)) rest = cc in
+    let steps : c.has.result ≡ chain (first_of (session_order a.width)) rest = cc in
     steps ∙ chain-onward (session_order a.width) rest refl refl
 
-pub receiver-setup-spec : {M : Type 1} → statement M
-receiver-setup-spec =
+pub receiver_setup_spec : {M : Type 1} → statement M
+receiver_setup_spec =
     tie.close
     (tie.spec
     open-session-requires

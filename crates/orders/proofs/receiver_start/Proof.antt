@@ -9,31 +9,31 @@ use borrow.Author.Rules.{rules}
 use Rattle.orders.proofs.receiver_start.Statement.{statement}
 use Rattle.orders.proofs.receiver_start.Tie as tie
 
-open-batch-requires : tie.Need-open-batch-requires
+open-batch-requires : tie.Need-open_batch-a-requires
 open-batch-requires c κs = search rules
 
-roots-length-requires : tie.Need-roots-length-requires
+roots-length-requires : tie.Need-roots_length-requires
 roots-length-requires c κs = search rules
 
-has-requires : tie.Need-has-requires
+has-requires : tie.Need-has-a-requires
 has-requires c κs = search rules
 
-column-length-requires : tie.Need-column-length-requires
+column-length-requires : tie.Need-column_length-requires
 column-length-requires c κs = search rules
 
-has-requires-2 : tie.Need-has-requires-2
+has-requires-2 : tie.Need-has-a-requires-2
 has-requires-2 c κs = search rules
 
-table-length-requires : tie.Need-table-length-requires
+table-length-requires : tie.Need-table_length-requires
 table-length-requires c κs = search rules
 
-has-requires-3 : tie.Need-has-requires-3
+has-requires-3 : tie.Need-has-a-requires-3
 has-requires-3 c κs = search rules
 
-correction-length-requires : tie.Need-correction-length-requires
+correction-length-requires : tie.Need-correction_length-requires
 correction-length-requires c κs = search rules
 
-has-requires-4 : tie.Need-has-requires-4
+has-requires-4 : tie.Need-has-requires
 has-requires-4 c κs = search rules
 
 returns : tie.Need-returns
@@ -44,11 +44,11 @@ returns c =
     ∷ has a.table (table_length a.blocks)
     ∷ has a.correction (correction_length a.r.width a.blocks)
     ∷ [] in
-    let steps : c.has4.result ≡ chain (first_of (batch_order a.r a.batch a.blocks)) rest = cc in
+    let steps : c.has.result ≡ chain (first_of (batch_order a.r a.batch a.blocks)) rest = cc in
     steps ∙ chain-onward (batch_order a.r a.batch a.blocks) rest refl refl
 
-pub receiver-start-spec : {M : Type 1} → statement M
-receiver-start-spec =
+pub receiver_start_spec : {M : Type 1} → statement M
+receiver_start_spec =
     tie.close
     (tie.spec
     open-batch-requires

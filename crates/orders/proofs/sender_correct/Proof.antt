@@ -9,25 +9,25 @@ use borrow.Author.Rules.{rules}
 use Rattle.orders.proofs.sender_correct.Statement.{statement}
 use Rattle.orders.proofs.sender_correct.Tie as tie
 
-open-batch-requires : tie.Need-open-batch-requires
+open-batch-requires : tie.Need-open_batch-a-requires
 open-batch-requires c κs = search rules
 
-has-requires : tie.Need-has-requires
+has-requires : tie.Need-has-a-requires
 has-requires c κs = search rules
 
-has-requires-2 : tie.Need-has-requires-2
+has-requires-2 : tie.Need-has-a-requires-2
 has-requires-2 c κs = search rules
 
-correction-length-requires : tie.Need-correction-length-requires
+correction-length-requires : tie.Need-correction_length-requires
 correction-length-requires c κs = search rules
 
-has-requires-3 : tie.Need-has-requires-3
+has-requires-3 : tie.Need-has-a-requires-3
 has-requires-3 c κs = search rules
 
-table-length-requires : tie.Need-table-length-requires
+table-length-requires : tie.Need-table_length-requires
 table-length-requires c κs = search rules
 
-has-requires-4 : tie.Need-has-requires-4
+has-requires-4 : tie.Need-has-requires
 has-requires-4 c κs = search rules
 
 returns : tie.Need-returns
@@ -38,11 +38,11 @@ returns c =
     ∷ has a.correction (correction_length a.r.width a.blocks)
     ∷ has a.table (table_length a.blocks)
     ∷ [] in
-    let steps : c.has4.result ≡ chain (first_of (batch_order a.r a.batch a.blocks)) rest = cc in
+    let steps : c.has.result ≡ chain (first_of (batch_order a.r a.batch a.blocks)) rest = cc in
     steps ∙ chain-onward (batch_order a.r a.batch a.blocks) rest refl refl
 
-pub sender-correct-spec : {M : Type 1} → statement M
-sender-correct-spec =
+pub sender_correct_spec : {M : Type 1} → statement M
+sender_correct_spec =
     tie.close
     (tie.spec
     open-batch-requires

@@ -9,19 +9,19 @@ use borrow.Author.Rules.{rules}
 use Rattle.orders.proofs.sender_setup.Statement.{statement}
 use Rattle.orders.proofs.sender_setup.Tie as tie
 
-open-session-requires : tie.Need-open-session-requires
+open-session-requires : tie.Need-open_session-a-requires
 open-session-requires c κs = search rules
 
-has-requires : tie.Need-has-requires
+has-requires : tie.Need-has-a-requires
 has-requires c κs = search rules
 
-has-requires-2 : tie.Need-has-requires-2
+has-requires-2 : tie.Need-has-a-requires-2
 has-requires-2 c κs = search rules
 
-has-requires-3 : tie.Need-has-requires-3
+has-requires-3 : tie.Need-has-a-requires-3
 has-requires-3 c κs = search rules
 
-has-requires-4 : tie.Need-has-requires-4
+has-requires-4 : tie.Need-has-requires
 has-requires-4 c κs = search rules
 
 returns : tie.Need-returns
@@ -32,11 +32,11 @@ returns c =
     ∷ has a.message setup_message_length
     ∷ has a.siblings siblings_length
     ∷ [] in
-    let steps : c.has4.result ≡ chain (first_of (session_order a.width)) rest = cc in
+    let steps : c.has.result ≡ chain (first_of (session_order a.width)) rest = cc in
     steps ∙ chain-onward (session_order a.width) rest refl refl
 
-pub sender-setup-spec : {M : Type 1} → statement M
-sender-setup-spec =
+pub sender_setup_spec : {M : Type 1} → statement M
+sender_setup_spec =
     tie.close
     (tie.spec
     open-session-requires

@@ -9,25 +9,25 @@ use borrow.Author.Rules.{rules}
 use Rattle.orders.proofs.sender_verify.Statement.{statement}
 use Rattle.orders.proofs.sender_verify.Tie as tie
 
-end-batch-requires : tie.Need-end-batch-requires
+end-batch-requires : tie.Need-end_batch-a-requires
 end-batch-requires c κs = search rules
 
-table-length-requires : tie.Need-table-length-requires
+table-length-requires : tie.Need-table_length-requires
 table-length-requires c κs = search rules
 
-has-requires : tie.Need-has-requires
+has-requires : tie.Need-has-a-requires
 has-requires c κs = search rules
 
-has-requires-2 : tie.Need-has-requires-2
+has-requires-2 : tie.Need-has-a-requires-2
 has-requires-2 c κs = search rules
 
-has-requires-3 : tie.Need-has-requires-3
+has-requires-3 : tie.Need-has-a-requires-3
 has-requires-3 c κs = search rules
 
-sender-pads-length-requires : tie.Need-sender-pads-length-requires
+sender-pads-length-requires : tie.Need-sender_pads_length-requires
 sender-pads-length-requires c κs = search rules
 
-has-requires-4 : tie.Need-has-requires-4
+has-requires-4 : tie.Need-has-requires
 has-requires-4 c κs = search rules
 
 returns : tie.Need-returns
@@ -38,11 +38,11 @@ returns c =
     ∷ has a.message check_message_length
     ∷ has a.pads (sender_pads_length a.r.blocks)
     ∷ [] in
-    let steps : c.has4.result ≡ chain (first_of (end_order a.r a.key)) rest = cc in
+    let steps : c.has.result ≡ chain (first_of (end_order a.r a.key)) rest = cc in
     steps ∙ chain-onward (end_order a.r a.key) rest refl refl
 
-pub sender-verify-spec : {M : Type 1} → statement M
-sender-verify-spec =
+pub sender_verify_spec : {M : Type 1} → statement M
+sender_verify_spec =
     tie.close
     (tie.spec
     end-batch-requires

@@ -18,13 +18,13 @@ record Written (batch first : ℕ) (values out : List ℕ) (i : ℕ) : Type 0 wh
   long : length out ≡ 128
   inputs : take (i * 32) out ≡ concat i (λ j. pad_input batch (first + j) (part (j * 16) 16 values))
 
-abbrev invariant-loop : tie.invariant-loop
+abbrev invariant-loop : tie.invariant-loop-i
 invariant-loop out₀ batch first values i₀ out i = Written batch first values out i
 
-abbrev decreases-loop : tie.decreases-loop
+abbrev decreases-loop : tie.decreases-loop-i
 decreases-loop out₀ batch first values i₀ out i = 4 - i
 
-loop-holds : tie.Need-loop-init invariant-loop decreases-loop
+loop-holds : tie.Need-loop-i-init invariant-loop decreases-loop
 unfolding concat
 loop-holds c =
     record {
@@ -33,63 +33,63 @@ loop-holds c =
       inputs = refl;
     }
 
-add-next : tie.Need-overflow-add-next invariant-loop decreases-loop
+add-next : tie.Need-overflow_add-next invariant-loop decreases-loop
 add-next c = omega arith
 
-mul-start : tie.Need-overflow-mul-start invariant-loop decreases-loop
+mul-start : tie.Need-overflow_mul-start invariant-loop decreases-loop
 mul-start c = omega arith
 
-mul-end : tie.Need-overflow-mul-end invariant-loop decreases-loop
+mul-end : tie.Need-overflow_mul-end invariant-loop decreases-loop
 mul-end c = omega arith
 
-mul-from : tie.Need-overflow-mul-from invariant-loop decreases-loop
+mul-from : tie.Need-overflow_mul-from invariant-loop decreases-loop
 mul-from c = omega arith
 
-mul-to : tie.Need-overflow-mul-to invariant-loop decreases-loop
+mul-to : tie.Need-overflow_mul-to invariant-loop decreases-loop
 mul-to c = omega arith
 
-sub-write-input : tie.Need-overflow-sub-write-input invariant-loop decreases-loop
+sub-write-input : tie.Need-slice_bounds-write_input-count invariant-loop decreases-loop
 sub-write-input c = omega arith
 
-part-write-input-start : tie.Need-slice-bounds-write-input-start invariant-loop decreases-loop
+part-write-input-start : tie.Need-slice_bounds-write_input-start invariant-loop decreases-loop
 part-write-input-start c = omega arith
 
-part-write-input-end : tie.Need-slice-bounds-write-input-end invariant-loop decreases-loop
-part-write-input-end c = omega (arith, c.loop-test.true, c.before.loop.invariant)
+part-write-input-end : tie.Need-slice_bounds-write_input-end invariant-loop decreases-loop
+part-write-input-end c = omega (arith, c.loop-i-test.true, c.before.loop-i.invariant)
 
-cast-write-input : tie.Need-overflow-cast-write-input invariant-loop decreases-loop
+cast-write-input : tie.Need-overflow_cast-i invariant-loop decreases-loop
 cast-write-input c = omega arith
 
-add-write-input : tie.Need-overflow-add-write-input invariant-loop decreases-loop
+add-write-input : tie.Need-overflow_add-first invariant-loop decreases-loop
 add-write-input c = omega (arith, c.before.before.before.before.before.requires)
 
-sub-write-input-2 : tie.Need-overflow-sub-write-input-2 invariant-loop decreases-loop
+sub-write-input-2 : tie.Need-slice_bounds-write_input-count-in-loop-i invariant-loop decreases-loop
 sub-write-input-2 c = omega arith
 
-part-write-input-start-2 : tie.Need-slice-bounds-write-input-start-2 invariant-loop decreases-loop
+part-write-input-start-2 : tie.Need-slice_bounds-write_input-start-in-loop-i invariant-loop decreases-loop
 part-write-input-start-2 c = omega arith
 
-part-write-input-end-2 : tie.Need-slice-bounds-write-input-end-2 invariant-loop decreases-loop
-part-write-input-end-2 c = omega (arith, c.before.loop-test.true, c.before.before.before.before.before.requires)
+part-write-input-end-2 : tie.Need-slice_bounds-write_input-end-in-loop-i invariant-loop decreases-loop
+part-write-input-end-2 c = omega (arith, c.before.loop-i-test.true, c.before.before.before.before.before.requires)
 
-write-input-requires : tie.Need-write-input-requires invariant-loop decreases-loop
+write-input-requires : tie.Need-write_input-requires invariant-loop decreases-loop
 write-input-requires c κs =
     let s = c.before.before.before.before.before.before in
-    let w = c.before.before.before.loop in
+    let w = c.before.before.before.loop-i in
     let i = w.i in
-    let below = c.before.before.loop-test.true in (
+    let below = c.before.before.loop-i-test.true in (
       (inside 4 32 i w.out below w.invariant.long).1,
       (inside 4 16 i s.args.values.now below s.requires.2).1,
     )
 
-loop-less : tie.Need-loop-smaller invariant-loop decreases-loop
+loop-less : tie.Need-loop-i-smaller invariant-loop decreases-loop
 loop-less c = omega arith
 
-loop-again : tie.Need-loop-preserved invariant-loop decreases-loop
+loop-again : tie.Need-loop-i-preserved invariant-loop decreases-loop
 loop-again c =
     let s = c.before.before.before.before.before.before.before.before.before in
-    let w = c.before.before.before.before.before.before.loop in
-    let below = c.before.before.before.before.before.loop-test.true in
+    let w = c.before.before.before.before.before.before.loop-i in
+    let below = c.before.before.before.before.before.loop-i-test.true in
     let i = w.i in
     let a = s.args in
     let f : ℕ → List ℕ = λ j. pad_input a.batch (a.first + j) (part (j * 16) 16 a.values.now) in
@@ -97,7 +97,7 @@ loop-again c =
     let whole : 32 ≡ (i + 1) * 32 - i * 32 = omega arith in
     let one = concat-one f i in
     let made : _ ≡ f i =
-    c.before.before.write-input.ensures
+    c.before.before.write_input.ensures
     ∙ ap (λ (n : ℕ). pad_input a.batch (a.first + i) (part (i * 16) n a.values.now)) size in
     let long = ap length (sym one)
     ∙ input-length a.batch (a.first + i) (part (i * 16) 16 a.values.now) (part_length (i * 16) 16 a.values.now (omega (arith, below, s.requires.2)))
@@ -109,20 +109,20 @@ loop-again c =
       inputs = grown.1;
     }
 
-same_length : tie.Need-same-length invariant-loop decreases-loop
-same_length c = c.before.loop.invariant.long ∙ sym c.before.before.before.before.requires.0
+same_length : tie.Need-shape_of-out invariant-loop decreases-loop
+same_length c = c.before.loop-i.invariant.long ∙ sym c.before.before.before.before.requires.0
 
 returns : tie.Need-returns invariant-loop decreases-loop
 returns c =
     let a = c.before.before.before.before.args in
-    let w = c.before.loop in
+    let w = c.before.loop-i in
     let all : w.i ≡ 4 = omega arith in
     sym (take_all (w.i * 32) w.out (omega (arith, all, w.invariant.long)))
     ∙ w.invariant.inputs
     ∙ ap (λ (i : ℕ). concat i (λ j. pad_input a.batch (a.first + j) (part (j * 16) 16 a.values.now))) all
 
-pub four-inputs-spec : {M : Type 1} → statement M
-four-inputs-spec =
+pub four_inputs_spec : {M : Type 1} → statement M
+four_inputs_spec =
     tie.close
     (tie.spec
     invariant-loop

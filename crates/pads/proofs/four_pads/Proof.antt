@@ -12,22 +12,22 @@ use Rattle.pads.proofs.Inputs.{pad-length, four-hashed}
 use Rattle.pads.proofs.four_pads.Statement.{statement}
 use Rattle.pads.proofs.four_pads.Tie as tie
 
-slice-aggregate-four-inputs : tie.Need-slice-aggregate-four-inputs
+slice-aggregate-four-inputs : tie.Need-slice_bounds-four_inputs-end
 slice-aggregate-four-inputs c = search rules
 
-four-inputs-requires : tie.Need-four-inputs-requires
+four-inputs-requires : tie.Need-four_inputs-requires
 four-inputs-requires c κs = search rules
 
-digest-requires : tie.Need-digest-requires
+digest-requires : tie.Need-digest-digests-requires
 digest-requires c κs = search rules
 
-slice-aggregate-copy-part : tie.Need-slice-aggregate-copy-part
+slice-aggregate-copy-part : tie.Need-slice_bounds-copy_part-end
 slice-aggregate-copy-part c = search rules
 
-copy-part-requires : tie.Need-copy-part-requires
+copy-part-requires : tie.Need-copy_part-requires
 copy-part-requires c κs = search rules
 
-same_length : tie.Need-same-length
+same_length : tie.Need-shape_of-pads
 same_length c = search rules
 
 returns : tie.Need-returns
@@ -37,15 +37,15 @@ returns c =
     let a = s.args in
     let f : ℕ → List ℕ = λ i. pad_of a.batch (a.first + i) (part (i * 16) 16 a.values.now) in
     let long = concat-length f 32 4 (λ i h. pad-length a.batch (a.first + i) (part (i * 16) 16 a.values.now)) in
-    b.copy-part.ensures
+    b.copy_part.ensures
     ∙ ap (put a.pads.now 0)
-    (b.before.before.before.digest.ensures
-    ∙ ap digests b.before.before.before.before.before.four-inputs.ensures
+    (b.before.before.before.digest-digests.ensures
+    ∙ ap digests b.before.before.before.before.before.four_inputs.ensures
     ∙ four-hashed a.batch a.first a.values.now s.requires.1)
     ∙ put_all a.pads.now (concat 4 f) (long ∙ sym s.requires.2)
 
-pub four-pads-spec : {M : Type 1} → statement M
-four-pads-spec =
+pub four_pads_spec : {M : Type 1} → statement M
+four_pads_spec =
     tie.close
     (tie.spec
     slice-aggregate-four-inputs

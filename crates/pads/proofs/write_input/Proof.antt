@@ -8,10 +8,7 @@ use Rattle.pads.proofs.Inputs.{input-is}
 use Rattle.pads.proofs.write_input.Statement.{statement}
 use Rattle.pads.proofs.write_input.Tie as tie
 
-slice-aggregate-copy-part : tie.Need-slice-aggregate-copy-part
-slice-aggregate-copy-part c = search rules
-
-copy-part-requires : tie.Need-copy-part-requires
+copy-part-requires : tie.Need-copy_part-requires
 copy-part-requires c κs = search rules
 
 store64-requires : tie.Need-store64-requires
@@ -20,10 +17,10 @@ store64-requires c κs = search rules
 store32-requires : tie.Need-store32-requires
 store32-requires c κs = search rules
 
-copy-part-requires-2 : tie.Need-copy-part-requires-2
+copy-part-requires-2 : tie.Need-copy_part-requires-2
 copy-part-requires-2 c κs = search rules
 
-same_length : tie.Need-same-length
+same_length : tie.Need-shape_of-out
 same_length c = search rules
 
 returns : tie.Need-returns
@@ -34,18 +31,17 @@ returns c =
     let heads = batches.before.before.before.before in
     let s = heads.before.before.before.before.before in
     let a = s.args in
-    values.copy-part2.ensures
+    values.copy_part-2.ensures
     ∙ ap (λ (d : List ℕ). put d 16 a.value.now)
     (rows.store32.ensures
     ∙ ap (λ (d : List ℕ). put d 12 (bytes 4 a.row))
-    (batches.store64.ensures ∙ ap (λ (d : List ℕ). put d 4 (bytes 8 a.batch)) heads.copy-part.ensures))
+    (batches.store64.ensures ∙ ap (λ (d : List ℕ). put d 4 (bytes 8 a.batch)) heads.copy_part.ensures))
     ∙ input-is a.out.now a.batch a.row a.value.now s.requires.0 s.requires.1
 
-pub write-input-spec : {M : Type 1} → statement M
-write-input-spec =
+pub write_input_spec : {M : Type 1} → statement M
+write_input_spec =
     tie.close
     (tie.spec
-    slice-aggregate-copy-part
     copy-part-requires
     store64-requires
     store32-requires

@@ -4,10 +4,10 @@ use Rattle.rows.proofs.Turns.{swapped}
 use Rattle.rows.proofs.swap.Statement.{statement}
 use Rattle.rows.proofs.swap.Tie as tie
 
-shr-moved : tie.Need-overflow-shr-moved
+shr-moved : tie.Need-overflow_shr-moved
 shr-moved c = search rules
 
-shl-t8 : tie.Need-overflow-shl-t8
+shl-t8 : tie.Need-overflow_shl-result
 shl-t8 c = search rules
 
 returns : tie.Need-returns

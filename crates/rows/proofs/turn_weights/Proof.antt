@@ -6,22 +6,22 @@ use Rattle.rows.proofs.Turns.{evens-of, weights-turned}
 use Rattle.rows.proofs.turn_weights.Statement.{statement}
 use Rattle.rows.proofs.turn_weights.Tie as tie
 
-stage-requires : tie.Need-stage-requires
+stage-requires : tie.Need-stage-by4-requires
 unfolding every
 stage-requires c κs = (omega arith, omega arith, evens-of 4 0x0f0f0f0f0f0f0f0f refl)
 
-stage-requires-2 : tie.Need-stage-requires-2
+stage-requires-2 : tie.Need-stage-by2-requires
 unfolding every
 stage-requires-2 c κs = (omega arith, omega arith, evens-of 2 0x3333333333333333 refl)
 
-stage-requires-3 : tie.Need-stage-requires-3
+stage-requires-3 : tie.Need-stage-requires
 unfolding every
 stage-requires-3 c κs = (omega arith, omega arith, evens-of 1 0x5555555555555555 refl)
 
 returns : tie.Need-returns
 returns c =
-    weights-turned c.before.before.before.args.v c.before.before.stage.result c.before.stage2.result c.stage3.result
-    c.before.before.stage.ensures c.before.stage2.ensures c.stage3.ensures
+    weights-turned c.before.before.before.args.v c.before.before.stage-by4.result c.before.stage-by2.result c.stage.result
+    c.before.before.stage-by4.ensures c.before.stage-by2.ensures c.stage.ensures
 
-pub turn-weights-spec : {M : Type 1} → statement M
-turn-weights-spec = tie.close (tie.spec stage-requires stage-requires-2 stage-requires-3 returns)
+pub turn_weights_spec : {M : Type 1} → statement M
+turn_weights_spec = tie.close (tie.spec stage-requires stage-requires-2 stage-requires-3 returns)

@@ -6,5 +6,5 @@ use Rattle.rules.proofs.key_usable.Tie as tie
 returns : tie.Need-returns
 returns c = refl
 
-pub key-usable-spec : {M : Type 1} → statement M
-key-usable-spec = tie.close (tie.spec returns)
+pub key_usable_spec : {M : Type 1} → statement M
+key_usable_spec = tie.close (tie.spec returns)

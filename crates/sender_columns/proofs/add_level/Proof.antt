@@ -17,13 +17,13 @@ use Rattle.sender_columns.proofs.add_level.Statement.{statement}
 use Rattle.sender_columns.proofs.add_level.Tie as tie
 
 -- where the proof comes back to: the calls before, and the entry
-abbrev entry : tie.After-of-four → tie.Start
+abbrev entry : tie.After-of_four-bit_zero → tie.Start
 entry c = c.before.before.before.before.before
 
-abbrev at-sides : tie.After-add-where → tie.After-of-four
+abbrev at-sides : tie.After-add_where → tie.After-of_four-bit_zero
 at-sides c = c.before.before.before
 
-abbrev at-mask : tie.After-walk-arg3 → tie.After-add-where
+abbrev at-mask : tie.After-walk-arg-3-1 → tie.After-add_where
 at-mask c = c.before.before.before.before.before.before
 
 abbrev at-walk : tie.After-add-where-arg4 → tie.After-walk
@@ -44,53 +44,53 @@ fits s =
     let inside : r * n + n ≤ length s.args.v.now = omega (arith, place-fits r s.args.k n (omega (arith, s.requires.0.0)), s.requires.1.3) in
     (inside, omega (arith, inside), omega (arith, s.requires.0.0))
 
-sub-r : tie.Need-overflow-sub-r
+sub-r : tie.Need-overflow_sub-r
 sub-r c = omega arith
 
-sub-r-2 : tie.Need-overflow-sub-r-2
+sub-r-2 : tie.Need-overflow_sub-r-2
 sub-r-2 c = omega arith
 
-mul_at : tie.Need-overflow-mul-at
+mul_at : tie.Need-overflow_mul-at
 mul_at c = omega (arith, fits c.before.before.before.before)
 
-add-end : tie.Need-overflow-add-end
+add-end : tie.Need-overflow_add-end
 add-end c = omega (arith, fits c.before.before.before.before)
 
-of-four-requires : tie.Need-of-four-requires
+of-four-requires : tie.Need-of_four-bit_zero-requires
 of-four-requires c κs = omega arith
 
-mul-add-where : tie.Need-overflow-mul-add-where
+mul-add-where : tie.Need-offset_bounds-v-at
 mul-add-where c = omega (arith, fits (entry c))
 
-sub-add-where : tie.Need-overflow-sub-add-where
+sub-add-where : tie.Need-slice_bounds-add_where-count
 sub-add-where c = omega arith
 
-part-add-where-start : tie.Need-slice-bounds-add-where-start
+part-add-where-start : tie.Need-slice_bounds-add_where-start
 part-add-where-start c = omega arith
 
-part-add-where-end : tie.Need-slice-bounds-add-where-end
+part-add-where-end : tie.Need-slice_bounds-add_where-end
 part-add-where-end c = omega (arith, fits (entry c))
 
-add-where-requires : tie.Need-add-where-requires
+add-where-requires : tie.Need-add_where-requires
 add-where-requires c κs =
     let s = entry c.before.before in
     let n = length s.args.u.now in
     let at : ℕ = (s.args.k - 1 - s.args.level) * n in
     let size : at + n - at ≡ n = omega arith in (
       mid_len at (at + n) s.args.v.now (omega (arith, fits s)) ∙ size,
-      omega (arith, s.pre.1.0),
+      omega (arith, s.requires.1.0),
       λ i.
-          rw c.before.before.of_four.ensures
+          rw c.before.before.of_four-bit_zero.ensures
           (tabulate-lt 4 2 (λ j. get_or s.args.sides.now (j * s.args.k + s.args.level) 0) (omega arith)
-          (λ j. s.pre.0.3 (j * s.args.k + s.args.level)) i),
+          (λ j. s.requires.0.3 (j * s.args.k + s.args.level)) i),
     )
 
 -- the first addition
-added : (c : tie.After-add-where)
+added : (c : tie.After-add_where)
     → let s = entry (at-sides c) in
     let n = length s.args.u.now in
     let at = (s.args.k - 1 - s.args.level) * n in
-    let v' = put_mid at (at + n - at) s.args.v.now c.add-where.new.0 in
+    let v' = put_mid at (at + n - at) s.args.v.now c.add_where.new.v in
     (v' ≡ xor_part s.args.v.now at n (of_side s.args.k s.args.level s.args.sides.now s.args.u.now)) × (length v' ≡ length s.args.v.now)
 added c =
     let s = entry (at-sides c) in
@@ -99,21 +99,21 @@ added c =
     let n = length u in
     let at : ℕ = (s.args.k - 1 - s.args.level) * n in
     let is = part-added at (at + n) n v _ (of_side s.args.k s.args.level s.args.sides.now u) refl
-    (c.add-where.ensures
-    ∙ ap (λ (z : List ℕ). xor_each (part at (at + n - at) v) (λ i. get_or z (i % 4) 0 * get_or u i 0)) (at-sides c).of_four.ensures) in
+    (c.add_where.ensures
+    ∙ ap (λ (z : List ℕ). xor_each (part at (at + n - at) v) (λ i. get_or z (i % 4) 0 * get_or u i 0)) (at-sides c).of_four-bit_zero.ensures) in
     (is, ap length is ∙ xor_part-length v at n _ (fits s).0)
 
-mul-nodes-at : tie.Need-overflow-mul-nodes-at
+mul-nodes-at : tie.Need-overflow_mul-level
 mul-nodes-at c = omega arith
 
-nodes-at-requires : tie.Need-nodes-at-requires
+nodes-at-requires : tie.Need-nodes_at-requires
 nodes-at-requires c κs = omega arith
 
 walk-requires : tie.Need-walk-requires
 walk-requires c κs =
     let s = entry (at-sides (at-mask c)) in
     let v = added (at-mask c) in
-    (omega (arith, (fits s).1, v.1), (s.pre.1.0, s.pre.1.1, s.pre.1.2))
+    (omega (arith, (fits s).1, v.1), (s.requires.1.0, s.requires.1.1, s.requires.1.2))
 
 -- the walk: u and v after it
 walked : (c : tie.After-walk)
@@ -122,10 +122,10 @@ walked : (c : tie.After-walk)
     let r = s.args.k - 1 - s.args.level in
     let nodes = part (32 * s.args.level) 32 s.args.s.now in
     let v = xor_part s.args.v.now (r * length u) (length u) (of_side s.args.k s.args.level s.args.sides.now u) in
-    (c.walk.new.1.1.1.0 ≡ xor_each u (u_word (word_of s.args.stream) r nodes))
-    × (length c.walk.new.1.1.1.0 ≡ length u)
-    × (c.walk.new.1.1.1.1.0 ≡ xor_each v (column_word (word_of s.args.stream) (length u) r nodes))
-    × (length c.walk.new.1.1.1.1.0 ≡ length s.args.v.now)
+    (c.walk.new.u ≡ xor_each u (u_word (word_of s.args.stream) r nodes))
+    × (length c.walk.new.u ≡ length u)
+    × (c.walk.new.v ≡ xor_each v (column_word (word_of s.args.stream) (length u) r nodes))
+    × (length c.walk.new.v ≡ length s.args.v.now)
 walked c =
     let s = entry (at-sides (at-mask c.before)) in
     let u = s.args.u.now in
@@ -133,7 +133,7 @@ walked c =
     let r : ℕ = s.args.k - 1 - s.args.level in
     let nodes = part (32 * s.args.level) 32 s.args.s.now in
     let first = added (at-mask c.before) in
-    let found = c.before.before.before.before.nodes-at.ensures in
+    let found = c.before.before.before.before.nodes_at.ensures in
     let made = c.walk.ensures.0 ∙ ap (λ (m : List ℕ). xor_each u (u_word (word_of s.args.stream) r m)) found in
     let columns = c.walk.ensures.1 ∙ ap₂ (λ (m z : List ℕ). xor_each z (column_word (word_of s.args.stream) n r m)) found first.0 in (
       made,
@@ -146,36 +146,36 @@ walked c =
 inside : (c : tie.After-walk)
     → let s = entry (at-sides (at-mask c.before)) in
     let n = length s.args.u.now in
-    ((s.args.k - 1 - s.args.level) * n + n ≤ length c.walk.new.1.1.1.1.0) × (length c.walk.new.1.1.1.0 ≡ n)
+    ((s.args.k - 1 - s.args.level) * n + n ≤ length c.walk.new.v) × (length c.walk.new.u ≡ n)
 inside c =
     let w = walked c in
     (omega (arith, w.3, (fits (entry (at-sides (at-mask c.before)))).0), w.1)
 
-mul-add-where-2 : tie.Need-overflow-mul-add-where-2
+mul-add-where-2 : tie.Need-offset_bounds-v-at-2
 mul-add-where-2 c = omega (arith, fits (entry (at-sides (at-mask c.before.before.before.before.before))))
 
-sub-add-where-2 : tie.Need-overflow-sub-add-where-2
+sub-add-where-2 : tie.Need-slice_bounds-add_where-count-2
 sub-add-where-2 c = omega arith
 
-part-add-where-start-2 : tie.Need-slice-bounds-add-where-start-2
+part-add-where-start-2 : tie.Need-slice_bounds-add_where-start-2
 part-add-where-start-2 c = omega arith
 
-part-add-where-end-2 : tie.Need-slice-bounds-add-where-end-2
+part-add-where-end-2 : tie.Need-slice_bounds-add_where-end-2
 part-add-where-end-2 c = omega (arith, inside c.before.before.before.before)
 
-add-where-requires-2 : tie.Need-add-where-requires-2
+add-where-requires-2 : tie.Need-add_where-requires-2
 add-where-requires-2 c κs =
     let s = entry (at-sides (at-mask (at-walk c).before)) in
     let n = length s.args.u.now in
     let at : ℕ = (s.args.k - 1 - s.args.level) * n in
     let here = inside (at-walk c) in
     let size : at + n - at ≡ n = omega arith in
-    (mid_len at (at + n) (at-walk c).walk.new.1.1.1.1.0 here.0 ∙ size ∙ sym here.1, omega (arith, here.1, s.pre.1.0), every-side)
+    (mid_len at (at + n) (at-walk c).walk.new.v here.0 ∙ size ∙ sym here.1, omega (arith, here.1, s.requires.1.0), every-side)
 
-same_length : tie.Need-same-length
+same_length : tie.Need-shape_of-u
 same_length c = omega arith
 
-same-length-2 : tie.Need-same-length-2
+same-length-2 : tie.Need-shape_of-v
 same-length-2 c = omega arith
 
 returns : tie.Need-returns
@@ -184,16 +184,16 @@ returns c =
     let w = walked (at-walk c.before.before.before) in
     let n = length s.args.u.now in
     let at : ℕ = (s.args.k - 1 - s.args.level) * n in
-    let u = (at-walk c.before.before.before).walk.new.1.1.1.0 in
-    let v = (at-walk c.before.before.before).walk.new.1.1.1.1.0 in (
+    let u = (at-walk c.before.before.before).walk.new.u in
+    let v = (at-walk c.before.before.before).walk.new.v in (
       w.0,
       part-added at (at + n) n v _ (λ i. get_or u i 0) refl
-          (c.before.before.add-where2.ensures ∙ xor_each-cong (part at (at + n - at) v) _ (λ i. get_or u i 0) (λ i lt. every-lane i (get_or u i 0)))
+          (c.before.before.add_where-2.ensures ∙ xor_each-cong (part at (at + n - at) v) _ (λ i. get_or u i 0) (λ i lt. every-lane i (get_or u i 0)))
           ∙ ap (λ (z : List ℕ). xor_part z at n (λ i. get_or u i 0)) w.2,
     )
 
-pub add-level-spec : {M : Type 1} → statement M
-add-level-spec =
+pub add_level_spec : {M : Type 1} → statement M
+add_level_spec =
     tie.close
     (tie.spec
     sub-r

@@ -7,57 +7,57 @@ use Rattle.columns.proofs.Tables.{columns-fit}
 use Rattle.sender_columns.proofs.all_columns.Statement.{statement}
 use Rattle.sender_columns.proofs.all_columns.Tie as tie
 
-mul-size : tie.Need-overflow-mul-size
+mul-size : tie.Need-overflow_mul-size
 mul-size c = omega (arith, c.before.before.before.before.requires.0.0.shallow)
 
-room-requires : tie.Need-room-requires
+room-requires : tie.Need-room-room-requires
 room-requires c κs = omega arith
 
-mul_wide : tie.Need-overflow-mul-wide
+mul_wide : tie.Need-overflow_mul-wide
 mul_wide c =
-    let r = c.room in
+    let r = c.room-room in
     let s = c.before.before.before.before.before in
     let k = s.args.k in
     let short : r.result ≤ 128 = omega (arith, r.ensures, s.requires.1.short) in
     let size = columns-fit k r.result s.requires.0.0.shallow short in
     omega (arith, size)
 
-sub-all-trees : tie.Need-overflow-sub-all-trees
+sub-all-trees : tie.Need-slice_bounds-all_trees-count
 sub-all-trees c = omega arith
 
-part-s-start : tie.Need-slice-bounds-s-start
+part-s-start : tie.Need-slice_bounds-s-start
 part-s-start c = omega arith
 
-part-s-end : tie.Need-slice-bounds-s-end
+part-s-end : tie.Need-slice_bounds-s-end
 part-s-end c = omega (arith, c.before.before.before.before.before.requires.0.0.shallow)
 
-sub-all-trees-2 : tie.Need-overflow-sub-all-trees-2
+sub-all-trees-2 : tie.Need-slice_bounds-all_trees-count-2
 sub-all-trees-2 c = omega arith
 
-part-u-start : tie.Need-slice-bounds-u-start
+part-u-start : tie.Need-slice_bounds-u-start
 part-u-start c = omega arith
 
-part-u-end : tie.Need-slice-bounds-u-end
+part-u-end : tie.Need-slice_bounds-u-end
 part-u-end c = omega arith
 
-sub-all-trees-3 : tie.Need-overflow-sub-all-trees-3
+sub-all-trees-3 : tie.Need-slice_bounds-all_trees-count-3
 sub-all-trees-3 c = omega arith
 
-part-v-start : tie.Need-slice-bounds-v-start
+part-v-start : tie.Need-slice_bounds-v-start
 part-v-start c = omega arith
 
-part-v-end : tie.Need-slice-bounds-v-end
+part-v-end : tie.Need-slice_bounds-v-end
 part-v-end c =
-    let r = c.before.before.room in
+    let r = c.before.before.room-room in
     let s = c.before.before.before.before.before.before.before in
     let k = s.args.k in
     let short : r.result ≤ 128 = omega (arith, r.ensures, s.requires.1.short) in
     let size = columns-fit k r.result s.requires.0.0.shallow short in
     omega (arith, size)
 
-all-trees-requires : tie.Need-all-trees-requires
+all-trees-requires : tie.Need-all_trees-requires
 all-trees-requires c κs =
-    let r = c.before.before.before.before.room in
+    let r = c.before.before.before.before.room-room in
     let s = c.before.before.before.before.before.before.before.before.before in
     let k = s.args.k in
     let short : r.result ≤ 128 = omega (arith, r.ensures, s.requires.1.short) in
@@ -78,14 +78,14 @@ all-trees-requires c κs =
       ),
     )
 
-same_length : tie.Need-same-length
+same_length : tie.Need-shape_of-table
 same_length c = omega arith
 
 returns : tie.Need-returns
-returns c = c.before.before.before.before.before.all-trees.ensures
+returns c = c.before.before.before.before.before.all_trees.ensures
 
-pub all-columns-spec : {M : Type 1} → statement M
-all-columns-spec =
+pub all_columns_spec : {M : Type 1} → statement M
+all_columns_spec =
     tie.close
     (tie.spec
     mul-size

@@ -11,16 +11,16 @@ use Rattle.tree.proofs.Sides.{sides-length, sides-lt, lent-sides, whole-trees}
 use Rattle.sender_columns.proofs.correct.Statement.{statement}
 use Rattle.sender_columns.proofs.correct.Tie as tie
 
-mul-transfers : tie.Need-overflow-mul-transfers
+mul-transfers : tie.Need-overflow_mul-transfers
 mul-transfers c = omega (arith, c.before.before.before.before.requires.0.0.few)
 
-sub-all : tie.Need-overflow-sub-all
+sub-all : tie.Need-slice_bounds-all-count
 sub-all c = omega arith
 
-part-sides-start : tie.Need-slice-bounds-sides-start
+part-sides-start : tie.Need-slice_bounds-sides-start
 part-sides-start c = omega arith
 
-part-sides-end : tie.Need-slice-bounds-sides-end
+part-sides-end : tie.Need-slice_bounds-sides-end
 part-sides-end c = omega (arith, c.before.before.before.before.requires.0.0.few)
 
 all-requires : tie.Need-all-requires
@@ -37,28 +37,28 @@ all-requires c κs =
 sides-are : (c : tie.After-all)
     → (let s = c.before.before.before.before.before.before in
     let m : ℕ = s.args.n * s.args.k in
-    take (m - 0) (c.all.new.1.1.0 ++ drop (m - 0) (replicate 128 0)) ≡ sides_of m s.args.k s.args.delta.now)
+    take (m - 0) (c.all.new.out ++ drop (m - 0) (replicate 128 0)) ≡ sides_of m s.args.k s.args.delta.now)
 sides-are c =
     let s = c.before.before.before.before.before.before in
     let m : ℕ = s.args.n * s.args.k in
     let cut = cut-length m 128 s.requires.0.0.few in
-    lent-sides m s.args.k s.args.delta.now (take (m - 0) (replicate 128 0)) c.all.new.1.1.0 (drop (m - 0) (replicate 128 0)) cut c.all.auto.1.1.0 c.all.ensures
+    lent-sides m s.args.k s.args.delta.now (take (m - 0) (replicate 128 0)) c.all.new.out (drop (m - 0) (replicate 128 0)) cut c.all.auto.out c.all.ensures
 
-sub-all-columns : tie.Need-overflow-sub-all-columns
+sub-all-columns : tie.Need-slice_bounds-all_columns-count
 sub-all-columns c = omega arith
 
-part-all-columns-start : tie.Need-slice-bounds-all-columns-start
+part-all-columns-start : tie.Need-slice_bounds-all_columns-start
 part-all-columns-start c = omega arith
 
-part-all-columns-end : tie.Need-slice-bounds-all-columns-end
+part-all-columns-end : tie.Need-slice_bounds-all_columns-end
 part-all-columns-end c =
     let s = c.before.before.before.before.before.before.before.before in
     let all = c.before.before.all in
     let m : ℕ = s.args.n * s.args.k in
-    let long = same_len_mid 0 (m - 0) (replicate 128 0) all.new.1.1.0 all.auto.1.1.0 in
+    let long = same_len_mid 0 (m - 0) (replicate 128 0) all.new.out all.auto.out in
     omega (arith, s.requires.0.0.few, long, length-replicate {A = ℕ} 128 0)
 
-all-columns-requires : tie.Need-all-columns-requires
+all-columns-requires : tie.Need-all_columns-requires
 all-columns-requires c κs =
     let s = c.before.before.before.before.before.before.before.before.before.before in
     let had = sides-are c.before.before.before.before in
@@ -75,14 +75,14 @@ all-columns-requires c κs =
       s.requires.1,
     )
 
-same_length : tie.Need-same-length
+same_length : tie.Need-shape_of-table
 same_length c = omega arith
 
 returns : tie.Need-returns
-returns c = c.before.before.all-columns.ensures c.before.before.before.before.before.before.before.before.before.before.before.before.before.args.delta.now (sides-are c.before.before.before.before.before.before.before)
+returns c = c.before.before.all_columns.ensures c.before.before.before.before.before.before.before.before.before.before.before.before.before.args.delta.now (sides-are c.before.before.before.before.before.before.before)
 
-pub correct-spec : {M : Type 1} → statement M
-correct-spec =
+pub correct_spec : {M : Type 1} → statement M
+correct_spec =
     tie.close
     (tie.spec
     mul-transfers

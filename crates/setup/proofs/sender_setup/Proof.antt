@@ -8,55 +8,55 @@ use Rattle.answer.proofs.Order.{new-when, old-when}
 use Rattle.sizes.specs.Sizes.{trees_of}
 use Rattle.setup.specs.Setup.{siblings_of}
 use Rattle.setup.proofs.Answers.{sender-fits, sender-work}
-use Rattle.setup.proofs.sender_setup.Statement.{statement}
-use Rattle.setup.proofs.sender_setup.Tie as tie
+use Rattle.setup.proofs.sender_setup-answer.Statement.{statement}
+use Rattle.setup.proofs.sender_setup-answer.Tie as tie
 
-sender-setup-requires : tie.Need-sender-setup-requires
+sender-setup-requires : tie.Need-sender_setup-answer-requires
 sender-setup-requires c κs = search rules
 
-is-done-requires : tie.Need-is-done-requires
+is-done-requires : tie.Need-is_done-requires
 is-done-requires c κs = search rules
 
-done : (c : tie.Then1) → is_done c.before.before.sender-setup.result ≡ true
-done c = sym c.before.is-done.ensures ∙ c.if1.true
+done : (c : tie.Then-is_done) → is_done c.before.before.sender_setup-answer.result ≡ true
+done c = sym c.before.is_done.ensures ∙ c.if-is_done.true
 
-trees-of-requires : tie.Need-trees-of-requires
+trees-of-requires : tie.Need-trees_of-n-requires
 trees-of-requires c κs = search rules
 
-find-siblings-requires : tie.Need-find-siblings-requires
+find-siblings-requires : tie.Need-find_siblings-requires
 find-siblings-requires c κs =
     let t = c.before.before in
-    sender-work _ _ _ _ _ _ c.before.trees-of.ensures
-    (sender-fits _ _ _ _ _ (ap is_done (sym t.before.before.sender-setup.ensures) ∙ done t))
+    sender-work _ _ _ _ _ _ c.before.trees_of-n.ensures
+    (sender-fits _ _ _ _ _ (ap is_done (sym t.before.before.sender_setup-answer.ensures) ∙ done t))
 
-same_length : tie.Need-same-length
+same_length : tie.Need-shape_of-siblings
 same_length c = search rules
 
-returns : tie.Need-returns
+returns : tie.Need-returns-then-is_done
 returns c =
     let n = c.before.before.before.before in
     let t = n.before in
     let a = t.before.before.before.before.before.before.before.args in
     record {
-      answered = t.before.before.sender-setup.ensures;
+      answered = t.before.before.sender_setup-answer.ensures;
       written =
-          c.before.before.find-siblings.ensures
-          ∙ ap (λ (n : ℕ). siblings_of n a.width a.delta.now a.base-pads.now a.message.now) n.trees-of.ensures
-          ∙ sym (new-when t.before.before.sender-setup.result _ _ (done t));
+          c.before.before.find_siblings.ensures
+          ∙ ap (λ (n : ℕ). siblings_of n a.width a.delta.now a.base-pads.now a.message.now) n.trees_of-n.ensures
+          ∙ sym (new-when t.before.before.sender_setup-answer.result _ _ (done t));
     }
 
-returns-2 : tie.Need-returns-2
+returns-2 : tie.Need-returns-else-is_done
 returns-2 c =
     let a = c.before.before.before.before.before.before.before.args in
-    let x = c.before.before.sender-setup in
+    let x = c.before.before.sender_setup-answer in
     let made = siblings_of (trees_of a.width) a.width a.delta.now a.base-pads.now a.message.now in
     record {
       answered = x.ensures;
-      written = sym (old-when x.result made a.siblings.now (sym c.before.is-done.ensures ∙ c.if1.false));
+      written = sym (old-when x.result made a.siblings.now (sym c.before.is_done.ensures ∙ c.if-is_done.false));
     }
 
-pub sender-setup-spec : {M : Type 1} → statement M
-sender-setup-spec =
+pub sender_setup_spec : {M : Type 1} → statement M
+sender_setup_spec =
     tie.close
     (tie.spec
     sender-setup-requires

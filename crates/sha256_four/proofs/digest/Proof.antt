@@ -10,13 +10,13 @@ use borrow.Author.Rules.{rules}
 use Rattle.sha256_four.proofs.digest.Statement.{statement}
 use Rattle.sha256_four.proofs.digest.Tie as tie
 
-slice-aggregate-schedule : tie.Need-slice-aggregate-schedule
+slice-aggregate-schedule : tie.Need-slice_bounds-schedule-end
 slice-aggregate-schedule c = search rules
 
-schedule-requires : tie.Need-schedule-requires
+schedule-requires : tie.Need-schedule-w-requires
 schedule-requires c κs = search rules
 
-rounds-requires : tie.Need-rounds-requires
+rounds-requires : tie.Need-rounds-t-requires
 unfolding constants
 rounds-requires c κs = refl
 
@@ -25,14 +25,14 @@ collect-requires c κs = search rules
 
 returns : tie.Need-returns
 returns c =
-    let m = c.before.before.before.before.before.before.before.args.t1 in
+    let m = c.before.before.before.before.before.before.before.args.m in
     let len : length m ≡ 128 = search rules in
     c.collect.ensures
-    ∙ ap (λ (t : List ℕ). concat 4 (λ l. digest_in l t)) (c.before.before.rounds.ensures ∙ ap (rounds_in_lanes 64) c.before.before.before.before.before.schedule.ensures)
+    ∙ ap (λ (t : List ℕ). concat 4 (λ l. digest_in l t)) (c.before.before.rounds-t.ensures ∙ ap (rounds_in_lanes 64) c.before.before.before.before.before.schedule-w.ensures)
     ∙ lane-digests m len
 
-pub digest-spec : {M : Type 1} → statement M
-digest-spec =
+pub digest_spec : {M : Type 1} → statement M
+digest_spec =
     tie.close
     (tie.spec
     slice-aggregate-schedule

@@ -6,7 +6,7 @@ use Rattle.sha256_four.proofs.finish.Tie as tie
 get-requires : tie.Need-get-requires
 get-requires c κs = search rules
 
-first-value-requires : tie.Need-first-value-requires
+first-value-requires : tie.Need-first_value-requires
 first-value-requires c κs = search rules
 
 sum-requires : tie.Need-sum-requires

@@ -8,5 +8,5 @@ returns : tie.Need-returns
 unfolding laned tabulate
 returns c = refl
 
-pub spread-spec : {M : Type 1} → statement M
-spread-spec = tie.close (tie.spec returns)
+pub spread_spec : {M : Type 1} → statement M
+spread_spec = tie.close (tie.spec returns)

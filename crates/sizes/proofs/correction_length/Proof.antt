@@ -8,32 +8,32 @@ use Rattle.sizes.specs.Sizes.{columns, column_length}
 use Rattle.sizes.proofs.correction_length.Statement.{statement}
 use Rattle.sizes.proofs.correction_length.Tie as tie
 
-trees-of-requires : tie.Need-trees-of-requires
+trees-of-requires : tie.Need-trees_of-n-requires
 trees-of-requires c κs = search rules
 
-returns : tie.Need-returns
+returns : tie.Need-returns-then-n-eq0
 returns c =
     let len : ℕ = column_length c.before.before.args.blocks in
-    sym (ap (λ (n : ℕ). (n - 1) * len) (sym c.before.trees-of.ensures ∙ c.if1.true) ∙ zero-mul len)
+    sym (ap (λ (n : ℕ). (n - 1) * len) (sym c.before.trees_of-n.ensures ∙ c.if-n-eq0.true) ∙ zero-mul len)
 
-sub-result : tie.Need-overflow-sub-result
+sub-result : tie.Need-overflow_sub-result
 sub-result c = search rules
 
-column-length-requires : tie.Need-column-length-requires
+column-length-requires : tie.Need-column_length-requires
 column-length-requires c κs = search rules
 
-mul-result : tie.Need-overflow-mul-result
+mul-result : tie.Need-overflow_mul-result
 mul-result c =
     let s = c.before.before in
     let a = s.before.args in
-    let most : (s.trees-of.result - 1) * c.column-length.result ≤ 128 * c.column-length.result =
-    mul-le-mul_right c.column-length.result (omega (arith, s.trees-of.ensures, div-le_self columns a.width)) in
-    omega (arith, most, c.column-length.ensures, s.before.well-formed)
+    let most : (s.trees_of-n.result - 1) * c.column_length.result ≤ 128 * c.column_length.result =
+    mul-le-mul_right c.column_length.result (omega (arith, s.trees_of-n.ensures, div-le_self columns a.width)) in
+    omega (arith, most, c.column_length.ensures, s.before.well_formed)
 
-returns-2 : tie.Need-returns-2
-returns-2 c = ap₂ (λ (n len : ℕ). (n - 1) * len) c.before.before.trees-of.ensures c.column-length.ensures
+returns-2 : tie.Need-returns
+returns-2 c = ap₂ (λ (n len : ℕ). (n - 1) * len) c.before.before.trees_of-n.ensures c.column_length.ensures
 
-pub correction-length-spec : {M : Type 1} → statement M
-correction-length-spec =
+pub correction_length_spec : {M : Type 1} → statement M
+correction_length_spec =
     tie.close
     (tie.spec trees-of-requires returns sub-result column-length-requires mul-result returns-2)

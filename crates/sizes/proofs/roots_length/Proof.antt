@@ -6,14 +6,14 @@ use Rattle.sizes.specs.Sizes.{columns}
 use Rattle.sizes.proofs.roots_length.Statement.{statement}
 use Rattle.sizes.proofs.roots_length.Tie as tie
 
-trees-of-requires : tie.Need-trees-of-requires
+trees-of-requires : tie.Need-trees_of-requires
 trees-of-requires c κs = search rules
 
-mul-result : tie.Need-overflow-mul-result
-mul-result c = omega (arith, c.trees-of.ensures, div-le_self columns c.before.args.width)
+mul-result : tie.Need-overflow_mul-result
+mul-result c = omega (arith, c.trees_of.ensures, div-le_self columns c.before.args.width)
 
 returns : tie.Need-returns
 returns c = search rules
 
-pub roots-length-spec : {M : Type 1} → statement M
-roots-length-spec = tie.close (tie.spec trees-of-requires mul-result returns)
+pub roots_length_spec : {M : Type 1} → statement M
+roots_length_spec = tie.close (tie.spec trees-of-requires mul-result returns)

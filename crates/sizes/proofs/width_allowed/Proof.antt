@@ -12,29 +12,29 @@ first a b e = ap (λ (x : Bool). x || b) e
 next : (a b : Bool) → a ≡ false → (a || b) ≡ b
 next a b e = ap (λ (x : Bool). x || b) e
 
-returns : tie.Need-returns
+returns : tie.Need-returns-then-width-eq1
 unfolding width_allowed
-returns c = sym (first _ _ (eq-eqb _ _ c.if1.true))
+returns c = sym (first _ _ (eq-eqb _ _ c.if-width-eq1.true))
 
-returns-2 : tie.Need-returns-2
+returns-2 : tie.Need-returns-then-width-eq2
 unfolding width_allowed
-returns-2 c = sym (next _ _ (ne_eqb _ _ c.before.if1.false) ∙ first _ _ (eq-eqb _ _ c.if2.true))
+returns-2 c = sym (next _ _ (ne_eqb _ _ c.before.if-width-eq1.false) ∙ first _ _ (eq-eqb _ _ c.if-width-eq2.true))
 
-returns-3 : tie.Need-returns-3
+returns-3 : tie.Need-returns-then-width-eq4
 unfolding width_allowed
 returns-3 c =
     sym
-    (next _ _ (ne_eqb _ _ c.before.before.if1.false)
-    ∙ next _ _ (ne_eqb _ _ c.before.if2.false)
-    ∙ first _ _ (eq-eqb _ _ c.if3.true))
+    (next _ _ (ne_eqb _ _ c.before.before.if-width-eq1.false)
+    ∙ next _ _ (ne_eqb _ _ c.before.if-width-eq2.false)
+    ∙ first _ _ (eq-eqb _ _ c.if-width-eq4.true))
 
-returns-4 : tie.Need-returns-4
+returns-4 : tie.Need-returns
 unfolding width_allowed
 returns-4 c =
     sym
-    (next _ _ (ne_eqb _ _ c.before.before.if1.false)
-    ∙ next _ _ (ne_eqb _ _ c.before.if2.false)
-    ∙ next _ _ (ne_eqb _ _ c.if3.false))
+    (next _ _ (ne_eqb _ _ c.before.before.if-width-eq1.false)
+    ∙ next _ _ (ne_eqb _ _ c.before.if-width-eq2.false)
+    ∙ next _ _ (ne_eqb _ _ c.if-width-eq4.false))
 
-pub width-allowed-spec : {M : Type 1} → statement M
-width-allowed-spec = tie.close (tie.spec returns returns-2 returns-3 returns-4)
+pub width_allowed_spec : {M : Type 1} → statement M
+width_allowed_spec = tie.close (tie.spec returns returns-2 returns-3 returns-4)

@@ -8,67 +8,67 @@ use Rattle.tree.proofs.Telescope.{stream-word}
 use Rattle.tree.proofs.add_blocks.Statement.{statement}
 use Rattle.tree.proofs.add_blocks.Tie as tie
 
-abbrev invariant-loop : tie.invariant-loop
+abbrev invariant-loop : tie.invariant-loop-at
 invariant-loop nonce keys u₀ counter₀ at₀ u counter at = (at ≤ length u₀) × (at ≡ 64 * counter) × Added u₀ u (u_word (block_word nonce) 0 keys) at
 
-abbrev decreases-loop : tie.decreases-loop
+abbrev decreases-loop : tie.decreases-loop-at
 decreases-loop nonce keys u₀ counter₀ at₀ u counter at = length u₀ - at
 
-loop-holds : tie.Need-loop-init invariant-loop decreases-loop
+loop-holds : tie.Need-loop-at-init invariant-loop decreases-loop
 loop-holds c = (omega arith, omega arith, updated_none _ _)
 
-block-requires : tie.Need-block-requires invariant-loop decreases-loop
+block-requires : tie.Need-block-c-requires invariant-loop decreases-loop
 block-requires c κs = search rules
 
-add-end : tie.Need-overflow-add-end invariant-loop decreases-loop
+add-end : tie.Need-overflow_add-end invariant-loop decreases-loop
 add-end c = search rules
 
-mul-xor-words : tie.Need-overflow-mul-xor-words invariant-loop decreases-loop
+mul-xor-words : tie.Need-offset_bounds-u-at invariant-loop decreases-loop
 mul-xor-words c = search rules
 
-sub-xor-words : tie.Need-overflow-sub-xor-words invariant-loop decreases-loop
+sub-xor-words : tie.Need-slice_bounds-xor_words-count invariant-loop decreases-loop
 sub-xor-words c = search rules
 
-part-xor-words-start : tie.Need-slice-bounds-xor-words-start invariant-loop decreases-loop
+part-xor-words-start : tie.Need-slice_bounds-xor_words-start invariant-loop decreases-loop
 part-xor-words-start c = search rules
 
-part-xor-words-end : tie.Need-slice-bounds-xor-words-end invariant-loop decreases-loop
+part-xor-words-end : tie.Need-slice_bounds-xor_words-end invariant-loop decreases-loop
 part-xor-words-end c = search rules
 
-slice-aggregate-xor-words : tie.Need-slice-aggregate-xor-words invariant-loop decreases-loop
+slice-aggregate-xor-words : tie.Need-slice_bounds-xor_words-end-in-loop-at invariant-loop decreases-loop
 slice-aggregate-xor-words c = search rules
 
-xor-words-requires : tie.Need-xor-words-requires invariant-loop decreases-loop
+xor-words-requires : tie.Need-xor_words-requires invariant-loop decreases-loop
 xor-words-requires c κs = search rules
 
-add-counter : tie.Need-overflow-add-counter invariant-loop decreases-loop
+add-counter : tie.Need-overflow_add-counter invariant-loop decreases-loop
 add-counter c = search rules
 
-loop-less : tie.Need-loop-smaller invariant-loop decreases-loop
+loop-less : tie.Need-loop-at-smaller invariant-loop decreases-loop
 loop-less c = search rules
 
-loop-again : tie.Need-loop-preserved invariant-loop decreases-loop
+loop-again : tie.Need-loop-at-preserved invariant-loop decreases-loop
 loop-again c =
     let block = c.before.before.before.before.before in
-    let w = block.before.before.loop in
+    let w = block.before.before.loop-at in
     let s = block.before.before.before.before.args in
     let f = u_word (block_word s.nonce.now) 0 s.keys.now in
-    let back = part-added w.at (w.at + 64) 64 w.u _ _ refl c.before.before.xor-words.ensures in (
+    let back = part-added w.at (w.at + 64) 64 w.u _ _ refl c.before.before.xor_words.ensures in (
       omega arith,
       omega arith,
       subst (λ (z : List ℕ). Added s.u.now z f (w.at + 64)) (sym back)
-          (added-part s.u.now w.u f (λ i. get_or block.block.result i 0) w.at 64 (omega arith)
-          (λ j h. stream-word s.keys.now block.block.result s.nonce.now w.counter w.at j block.block.ensures w.invariant.1 h) w.invariant.2),
+          (added-part s.u.now w.u f (λ i. get_or block.block-c.result i 0) w.at 64 (omega arith)
+          (λ j h. stream-word s.keys.now block.block-c.result s.nonce.now w.counter w.at j block.block-c.ensures w.invariant.1 h) w.invariant.2),
     )
 
-same_length : tie.Need-same-length invariant-loop decreases-loop
+same_length : tie.Need-shape_of-u invariant-loop decreases-loop
 same_length c = search rules
 
 returns : tie.Need-returns invariant-loop decreases-loop
-returns c = added-all _ _ _ _ (omega arith) c.before.loop.invariant.2
+returns c = added-all _ _ _ _ (omega arith) c.before.loop-at.invariant.2
 
-pub add-blocks-spec : {M : Type 1} → statement M
-add-blocks-spec =
+pub add_blocks_spec : {M : Type 1} → statement M
+add_blocks_spec =
     tie.close
     (tie.spec
     invariant-loop

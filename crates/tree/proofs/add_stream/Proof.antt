@@ -9,10 +9,10 @@ use Rattle.tree.proofs.add_stream.Tie as tie
 nonce-requires : tie.Need-nonce-requires
 nonce-requires c κs = search rules
 
-add-blocks-requires : tie.Need-add-blocks-requires
+add-blocks-requires : tie.Need-add_blocks-requires
 add-blocks-requires c κs = search rules
 
-same_length : tie.Need-same-length
+same_length : tie.Need-shape_of-u
 same_length c = search rules
 
 returns : tie.Need-returns
@@ -20,8 +20,8 @@ returns c =
     let blocks = c.before.before in
     let nonce = blocks.before.before.before in
     let s = nonce.before.before.args in
-    blocks.add-blocks.ensures
+    blocks.add_blocks.ensures
     ∙ ap (λ (n : List ℕ). xor_each s.u.now (u_word (block_word n) 0 s.leaves.now)) nonce.nonce.ensures
 
-pub add-stream-spec : {M : Type 1} → statement M
-add-stream-spec = tie.close (tie.spec nonce-requires add-blocks-requires same_length returns)
+pub add_stream_spec : {M : Type 1} → statement M
+add_stream_spec = tie.close (tie.spec nonce-requires add-blocks-requires same_length returns)

@@ -23,34 +23,34 @@ lengths s =
     bodies_right a.width a.blocks a.present a.setup a.correction (length a.key.now) a.check
 
 -- the head's hold once the bodies are asked for
-head-holds : (c : tie.After-bodies-right) → AllHold (head c.before.before.before.before.before)
+head-holds : (c : tie.After-bodies_right) → AllHold (head c.before.before.before.before.before)
 head-holds c =
     let s = c.before.before.before.before.before in
-    all_hold (head s) refl (sym (ap is_done c.before.before.before.head-answer.ensures) ∙ sym c.before.before.is-done.ensures ∙ c.before.if1.true)
+    all_hold (head s) refl (sym (ap is_done c.before.before.before.head_answer-a.ensures) ∙ sym c.before.before.is_done.ensures ∙ c.before.if-is_done.true)
 
 -- and the lengths' once the key is
-both_hold : (c : tie.Then2) → let s = c.before.before.before.before.before.before in AllHold (head s ++ ((lengths s, Body) ∷ []))
+both_hold : (c : tie.Then-bodies_right) → let s = c.before.before.before.before.before.before in AllHold (head s ++ ((lengths s, Body) ∷ []))
 both_hold c =
     let s = c.before.before.before.before.before.before in
-    hold-more (head s) ((lengths s, Body) ∷ []) (head-holds c.before) (sym c.before.bodies_right.ensures ∙ c.if2.true, tt)
+    hold-more (head s) ((lengths s, Body) ∷ []) (head-holds c.before) (sym c.before.bodies_right.ensures ∙ c.if-bodies_right.true, tt)
 
-head-answer-requires : tie.Need-head-answer-requires
+head-answer-requires : tie.Need-head_answer-a-requires
 head-answer-requires c κs = search rules
 
-is-done-requires : tie.Need-is-done-requires
+is-done-requires : tie.Need-is_done-requires
 is-done-requires c κs = search rules
 
-bodies-right-requires : tie.Need-bodies-right-requires
+bodies-right-requires : tie.Need-bodies_right-requires
 bodies-right-requires c κs = search rules
 
-key-right-requires : tie.Need-key-right-requires
+key-right-requires : tie.Need-key_right-requires
 key-right-requires c κs =
     let a = c.before.before.before.before.before.before.args in
     (bodies-fit a.width a.blocks a.present a.setup a.correction (length a.key.now) a.check
-    (sym c.before.bodies_right.ensures ∙ c.if2.true)).1
+    (sym c.before.bodies_right.ensures ∙ c.if-bodies_right.true)).1
 
 -- so it decides
-ends : (c : tie.After-key-right)
+ends : (c : tie.After-key_right)
     → let a = c.before.before.before.before.before.before.before.args in
     first_of (file_order a.width a.batch a.blocks a.present a.setup a.correction (length a.key.now) a.check (little_endian a.key.now))
     ≡ cond c.key_right.result Done Key
@@ -58,25 +58,25 @@ ends c =
     let s = c.before.before.before.before.before.before.before in
     last-decides (head s ++ ((lengths s, Body) ∷ [])) _ Key (both_hold c.before) ∙ ap (λ (b : Bool). cond b Done Key) (sym c.key_right.ensures)
 
-returns : tie.Need-returns
-returns c = sym (ends c.before ∙ ap (λ (b : Bool). cond b Done Key) c.if3.true)
+returns : tie.Need-returns-then-key_right
+returns c = sym (ends c.before ∙ ap (λ (b : Bool). cond b Done Key) c.if-key_right.true)
 
-returns-2 : tie.Need-returns-2
-returns-2 c = sym (ends c.before ∙ ap (λ (b : Bool). cond b Done Key) c.if3.false)
+returns-2 : tie.Need-returns-then-bodies_right
+returns-2 c = sym (ends c.before ∙ ap (λ (b : Bool). cond b Done Key) c.if-key_right.false)
 
-returns-3 : tie.Need-returns-3
+returns-3 : tie.Need-returns-then-is_done
 returns-3 c =
     let s = c.before.before.before.before.before.before in
-    sym (refused-at (head s) _ (lengths s) Body (head-holds c.before) (sym c.before.bodies_right.ensures ∙ c.if2.false))
+    sym (refused-at (head s) _ (lengths s) Body (head-holds c.before) (sym c.before.bodies_right.ensures ∙ c.if-bodies_right.false))
 
-returns-4 : tie.Need-returns-4
+returns-4 : tie.Need-returns
 returns-4 c =
     let s = c.before.before.before.before in
-    let given = c.before.before.head-answer.ensures in
-    given ∙ sym (first-refused (head s) _ (sym (ap is_done given) ∙ sym c.before.is-done.ensures ∙ c.if1.false))
+    let given = c.before.before.head_answer-a.ensures in
+    given ∙ sym (first-refused (head s) _ (sym (ap is_done given) ∙ sym c.before.is_done.ensures ∙ c.if-is_done.false))
 
-pub answer-spec : {M : Type 1} → statement M
-answer-spec =
+pub answer_spec : {M : Type 1} → statement M
+answer_spec =
     tie.close
     (tie.spec
     head-answer-requires

@@ -7,15 +7,15 @@ use Rattle.sizes.specs.Sizes.{head_length, short_head_length}
 use Rattle.batchfile.proofs.values.head_right.Statement.{statement}
 use Rattle.batchfile.proofs.values.head_right.Tie as tie
 
-returns : tie.Need-returns
+returns : tie.Need-returns-then-head-eq-HEAD_LENGTH
 returns c =
     let a = c.before.args in
-    sym (ap (λ (b : Bool). b || eqb a.head short_head_length) (eq-eqb a.head head_length c.if1.true))
+    sym (ap (λ (b : Bool). b || eqb a.head short_head_length) (eq-eqb a.head head_length c.if-head-eq-HEAD_LENGTH.true))
 
-returns-2 : tie.Need-returns-2
+returns-2 : tie.Need-returns
 returns-2 c =
     let a = c.before.args in
-    sym (ap (λ (b : Bool). b || eqb a.head short_head_length) (ne_eqb a.head head_length c.if1.false))
+    sym (ap (λ (b : Bool). b || eqb a.head short_head_length) (ne_eqb a.head head_length c.if-head-eq-HEAD_LENGTH.false))
 
-pub head-right-spec : {M : Type 1} → statement M
-head-right-spec = tie.close (tie.spec returns returns-2)
+pub head_right_spec : {M : Type 1} → statement M
+head_right_spec = tie.close (tie.spec returns returns-2)

@@ -12,15 +12,15 @@ use Rattle.batchfile.proofs.values.key_right.Tie as tie
 load64-requires : tie.Need-load64-requires
 load64-requires c κs = omega (arith, c.before.requires)
 
-key-usable-requires : tie.Need-key-usable-requires
+key-usable-requires : tie.Need-key_usable-requires
 key-usable-requires c κs = search rules
 
 returns : tie.Need-returns
 returns c =
     let s = c.before.before.before in
     let key = s.args.key.now in
-    c.key-usable.ensures
+    c.key_usable.ensures
     ∙ ap key_usable (c.before.load64.ensures ∙ word64-here key 0 ∙ ap little_endian (take_all 8 key (omega (arith, s.requires))))
 
-pub key-right-spec : {M : Type 1} → statement M
-key-right-spec = tie.close (tie.spec load64-requires key-usable-requires returns)
+pub key_right_spec : {M : Type 1} → statement M
+key_right_spec = tie.close (tie.spec load64-requires key-usable-requires returns)

@@ -7,11 +7,11 @@ use borrow.Author.Rules.{rules}
 use Rattle.batchfile.proofs.values.setup_right.Statement.{statement}
 use Rattle.batchfile.proofs.values.setup_right.Tie as tie
 
-returns : tie.Need-returns
-returns c = let a = c.before.args in sym (ap (λ (b : Bool). not b || eqb a.setup setup_message_length) c.if1.true)
+returns : tie.Need-returns-then-present
+returns c = let a = c.before.args in sym (ap (λ (b : Bool). not b || eqb a.setup setup_message_length) c.if-present.true)
 
-returns-2 : tie.Need-returns-2
+returns-2 : tie.Need-returns
 returns-2 c = search rules
 
-pub setup-right-spec : {M : Type 1} → statement M
-setup-right-spec = tie.close (tie.spec returns returns-2)
+pub setup_right_spec : {M : Type 1} → statement M
+setup_right_spec = tie.close (tie.spec returns returns-2)

@@ -14,21 +14,21 @@ use Rattle.setup.proofs.Message.{four-messages-from}
 use Rattle.setup.proofs.receiver.write_message.Statement.{statement}
 use Rattle.setup.proofs.receiver.write_message.Tie as tie
 
-abbrev invariant-loop : tie.invariant-loop
+abbrev invariant-loop : tie.invariant-loop-i
 invariant-loop n k roots pads message₀ size i₀ message i =
     (i % 4 ≡ 0) × Laid n (64 * k) (λ j. tree_message k (root_of roots j) (tree_part k 64 j pads)) i message
 
-abbrev decreases-loop : tie.decreases-loop
+abbrev decreases-loop : tie.decreases-loop-i
 decreases-loop n k roots pads message₀ size i₀ message i = n - i
 
 -- where the proof comes back to: the turn of the loop, and the entry
-abbrev entry : tie.In-loop invariant-loop decreases-loop → tie.Start invariant-loop decreases-loop
+abbrev entry : tie.In-loop-i invariant-loop decreases-loop → tie.Start invariant-loop decreases-loop
 entry c = c.before.before.before.before.before
 
-mul-size : tie.Need-overflow-mul-size invariant-loop decreases-loop
+mul-size : tie.Need-overflow_mul-size invariant-loop decreases-loop
 mul-size c = omega (arith, c.before.before.before.requires.0)
 
-loop-holds : tie.Need-loop-init invariant-loop decreases-loop
+loop-holds : tie.Need-loop-i-init invariant-loop decreases-loop
 loop-holds c =
     let s = c.before.before.before in
     (omega arith, laid_none _ _ _ s.args.message.now s.requires.3)
@@ -42,95 +42,95 @@ Room n k i =
     × ((i + 4) * (64 * k) ≤ n * (64 * k))
     × (n * (64 * k) ≤ 8192)
 
-room : (c : tie.In-loop invariant-loop decreases-loop) → (let s = c.before.before.before.before.before in Room s.args.n s.args.k c.before.loop.i)
+room : (c : tie.In-loop-i invariant-loop decreases-loop) → (let s = c.before.before.before.before.before in Room s.args.n s.args.k c.before.loop-i.i)
 room c =
     let s = c.before.before.before.before.before in
     let n = s.args.n in
     let k = s.args.k in
     let trees = s.requires.0 in
-    let four = four-fit n c.before.loop.i trees.fours c.before.loop.invariant.0 c.loop-test.true (64 * k) in
+    let four = four-fit n c.before.loop-i.i trees.fours c.before.loop-i.invariant.0 c.loop-i-test.true (64 * k) in
     (four.0, few-trees n k trees, four.1, four.2, omega (arith, mul_left_comm n 64 k, trees.few))
 
-add-next : tie.Need-overflow-add-next invariant-loop decreases-loop
+add-next : tie.Need-overflow_add-next invariant-loop decreases-loop
 add-next c = omega (arith, room c)
 
-mul-start : tie.Need-overflow-mul-start invariant-loop decreases-loop
+mul-start : tie.Need-overflow_mul-start invariant-loop decreases-loop
 mul-start c = omega (arith, room c)
 
-mul-end : tie.Need-overflow-mul-end invariant-loop decreases-loop
+mul-end : tie.Need-overflow_mul-end invariant-loop decreases-loop
 mul-end c = omega (arith, room c)
 
-mul-first : tie.Need-overflow-mul-first invariant-loop decreases-loop
+mul-first : tie.Need-overflow_mul-first invariant-loop decreases-loop
 mul-first c = omega (arith, room c)
 
-mul-last : tie.Need-overflow-mul-last invariant-loop decreases-loop
+mul-last : tie.Need-overflow_mul-last invariant-loop decreases-loop
 mul-last c = omega (arith, room c)
 
-sub-four-messages : tie.Need-overflow-sub-four-messages invariant-loop decreases-loop
+sub-four-messages : tie.Need-slice_bounds-four_messages-count invariant-loop decreases-loop
 sub-four-messages c = omega (arith, room c)
 
-part-four-messages-start : tie.Need-slice-bounds-four-messages-start invariant-loop decreases-loop
+part-four-messages-start : tie.Need-slice_bounds-four_messages-start invariant-loop decreases-loop
 part-four-messages-start c = omega (arith, room c)
 
-part-four-messages-end : tie.Need-slice-bounds-four-messages-end invariant-loop decreases-loop
+part-four-messages-end : tie.Need-slice_bounds-four_messages-end invariant-loop decreases-loop
 part-four-messages-end c = omega (arith, room c, c.before.before.before.before.before.requires)
 
-sub-four-messages-2 : tie.Need-overflow-sub-four-messages-2 invariant-loop decreases-loop
+sub-four-messages-2 : tie.Need-slice_bounds-four_messages-count-in-loop-i invariant-loop decreases-loop
 sub-four-messages-2 c = omega (arith, room c.before)
 
-part-four-messages-start-2 : tie.Need-slice-bounds-four-messages-start-2 invariant-loop decreases-loop
+part-four-messages-start-2 : tie.Need-slice_bounds-four_messages-start-in-loop-i invariant-loop decreases-loop
 part-four-messages-start-2 c = omega (arith, room c.before)
 
-part-four-messages-end-2 : tie.Need-slice-bounds-four-messages-end-2 invariant-loop decreases-loop
-part-four-messages-end-2 c = omega (arith, room c.before, (entry c.before).pre)
+part-four-messages-end-2 : tie.Need-slice_bounds-four_messages-end-in-loop-i invariant-loop decreases-loop
+part-four-messages-end-2 c = omega (arith, room c.before, (entry c.before).requires)
 
-sub-four-messages-3 : tie.Need-overflow-sub-four-messages-3 invariant-loop decreases-loop
+sub-four-messages-3 : tie.Need-slice_bounds-four_messages-count-in-loop-i-2 invariant-loop decreases-loop
 sub-four-messages-3 c = omega (arith, room c.before.before)
 
-part-four-messages-start-3 : tie.Need-slice-bounds-four-messages-start-3 invariant-loop decreases-loop
+part-four-messages-start-3 : tie.Need-slice_bounds-four_messages-start-in-loop-i-2 invariant-loop decreases-loop
 part-four-messages-start-3 c = omega (arith, room c.before.before)
 
-part-four-messages-end-3 : tie.Need-slice-bounds-four-messages-end-3 invariant-loop decreases-loop
-part-four-messages-end-3 c = omega (arith, room c.before.before, c.before.before.before.loop.invariant.1.len)
+part-four-messages-end-3 : tie.Need-slice_bounds-four_messages-end-in-loop-i-2 invariant-loop decreases-loop
+part-four-messages-end-3 c = omega (arith, room c.before.before, c.before.before.before.loop-i.invariant.1.len)
 
-four-messages-requires : tie.Need-four-messages-requires invariant-loop decreases-loop
+four-messages-requires : tie.Need-four_messages-requires invariant-loop decreases-loop
 four-messages-requires c κs =
     let s = entry c.before.before.before in
-    let w = c.before.before.before.before.loop in
+    let w = c.before.before.before.before.loop-i in
     let here = room c.before.before.before in
     let a : ℕ = w.i * (64 * s.args.k) in
     let e : ℕ = (w.i + 4) * (64 * s.args.k) in
     let size : e - a ≡ 4 * (64 * s.args.k) = omega (arith, here) in (
-      s.pre.0.shallow,
-      mid_len (w.i * 32) ((w.i + 4) * 32) s.args.roots.now (omega (arith, here, s.pre)) ∙ omega arith,
-      mid_len a e s.args.pads.now (omega (arith, here, s.pre)) ∙ size,
+      s.requires.0.shallow,
+      mid_len (w.i * 32) ((w.i + 4) * 32) s.args.roots.now (omega (arith, here, s.requires)) ∙ omega arith,
+      mid_len a e s.args.pads.now (omega (arith, here, s.requires)) ∙ size,
       mid_len a e w.message (omega (arith, here, w.invariant.1.len)) ∙ size,
     )
 
-loop-less : tie.Need-loop-smaller invariant-loop decreases-loop
+loop-less : tie.Need-loop-i-smaller invariant-loop decreases-loop
 loop-less c = omega (arith, room c.before.before.before.before.before.before)
 
-loop-again : tie.Need-loop-preserved invariant-loop decreases-loop
+loop-again : tie.Need-loop-i-preserved invariant-loop decreases-loop
 loop-again c =
     let s = entry c.before.before.before.before.before.before in
-    let w = c.before.before.before.before.before.before.before.loop in
+    let w = c.before.before.before.before.before.before.before.loop-i in
     let here = room c.before.before.before.before.before.before in
     let k = s.args.k in
     let f : ℕ → List ℕ = λ j. tree_message k (root_of s.args.roots.now j) (tree_part k 64 j s.args.pads.now) in
-    let made = c.before.before.four-messages.ensures ∙ four-messages-from k w.i s.args.roots.now s.args.pads.now in
+    let made = c.before.before.four_messages.ensures ∙ four-messages-from k w.i s.args.roots.now s.args.pads.now in
     (omega (arith, w.invariant.0), laid_more s.args.n (64 * k) f w.i 4 w.message _ made (λ j h. message-length k _ _) here.0 w.invariant.1)
 
-same_length : tie.Need-same-length invariant-loop decreases-loop
+same_length : tie.Need-shape_of-message invariant-loop decreases-loop
 same_length c =
     let s = c.before.before.before.before.before in
-    c.before.loop.invariant.1.len ∙ sym s.requires.3
+    c.before.loop-i.invariant.1.len ∙ sym s.requires.3
 
 returns : tie.Need-returns invariant-loop decreases-loop
 unfolding message_of
-returns c = laid-all _ _ _ _ c.before.loop.message (omega arith) c.before.loop.invariant.1
+returns c = laid-all _ _ _ _ c.before.loop-i.message (omega arith) c.before.loop-i.invariant.1
 
-pub write-message-spec : {M : Type 1} → statement M
-write-message-spec =
+pub write_message_spec : {M : Type 1} → statement M
+write_message_spec =
     tie.close
     (tie.spec
     invariant-loop

@@ -20,20 +20,20 @@ record Found (n k : ℕ) (sides siblings₀ siblings : List ℕ) (i : ℕ) : Typ
   laid : Laid n (32 * k) (λ j. nodes_found (λ l. get_or sides (j * k + l) 0) (tree_part k 32 j siblings₀) k) i siblings
   rest : drop (i * (32 * k)) siblings ≡ drop (i * (32 * k)) siblings₀
 
-abbrev invariant-loop : tie.invariant-loop
+abbrev invariant-loop : tie.invariant-loop-i
 invariant-loop n k sides siblings₀ size i₀ siblings i = Found n k sides siblings₀ siblings i
 
-abbrev decreases-loop : tie.decreases-loop
+abbrev decreases-loop : tie.decreases-loop-i
 decreases-loop n k sides siblings₀ size i₀ siblings i = n - i
 
 -- where the proof comes back to: the turn of the loop, and the entry
-abbrev entry : tie.In-loop invariant-loop decreases-loop → tie.Start invariant-loop decreases-loop
+abbrev entry : tie.In-loop-i invariant-loop decreases-loop → tie.Start invariant-loop decreases-loop
 entry c = c.before.before.before.before
 
-mul-size : tie.Need-overflow-mul-size invariant-loop decreases-loop
+mul-size : tie.Need-overflow_mul-size invariant-loop decreases-loop
 mul-size c = omega (arith, c.before.before.requires.0)
 
-loop-holds : tie.Need-loop-init invariant-loop decreases-loop
+loop-holds : tie.Need-loop-i-init invariant-loop decreases-loop
 loop-holds c =
     let s = c.before.before in
     record {
@@ -54,72 +54,72 @@ Room n k i =
     × ((i + 4) * k ≤ n * k)
     × (n * k ≤ 128)
 
-room : (c : tie.In-loop invariant-loop decreases-loop) → (let s = c.before.before.before.before in Room s.args.n s.args.k c.before.loop.i)
+room : (c : tie.In-loop-i invariant-loop decreases-loop) → (let s = c.before.before.before.before in Room s.args.n s.args.k c.before.loop-i.i)
 room c =
     let s = c.before.before.before.before in
     let n = s.args.n in
     let k = s.args.k in
     let trees = s.requires.0 in
-    let sides = four-fit n c.before.loop.i trees.fours c.before.loop.invariant.fours c.loop-test.true k in
-    let nodes = four-fit n c.before.loop.i trees.fours c.before.loop.invariant.fours c.loop-test.true (32 * k) in
+    let sides = four-fit n c.before.loop-i.i trees.fours c.before.loop-i.invariant.fours c.loop-i-test.true k in
+    let nodes = four-fit n c.before.loop-i.i trees.fours c.before.loop-i.invariant.fours c.loop-i-test.true (32 * k) in
     (sides.0, few-trees n k trees, nodes.1, nodes.2, omega (arith, mul_left_comm n 32 k, trees.few), sides.1, sides.2, trees.few)
 
-add-next : tie.Need-overflow-add-next invariant-loop decreases-loop
+add-next : tie.Need-overflow_add-next invariant-loop decreases-loop
 add-next c = omega (arith, room c)
 
-mul-start : tie.Need-overflow-mul-start invariant-loop decreases-loop
+mul-start : tie.Need-overflow_mul-start invariant-loop decreases-loop
 mul-start c = omega (arith, room c)
 
-mul-end : tie.Need-overflow-mul-end invariant-loop decreases-loop
+mul-end : tie.Need-overflow_mul-end invariant-loop decreases-loop
 mul-end c = omega (arith, room c)
 
-mul-first : tie.Need-overflow-mul-first invariant-loop decreases-loop
+mul-first : tie.Need-overflow_mul-first invariant-loop decreases-loop
 mul-first c = omega (arith, room c)
 
-mul-last : tie.Need-overflow-mul-last invariant-loop decreases-loop
+mul-last : tie.Need-overflow_mul-last invariant-loop decreases-loop
 mul-last c = omega (arith, room c)
 
-sub-four-trees : tie.Need-overflow-sub-four-trees invariant-loop decreases-loop
+sub-four-trees : tie.Need-slice_bounds-four_trees-count invariant-loop decreases-loop
 sub-four-trees c = omega (arith, room c)
 
-part-four-trees-start : tie.Need-slice-bounds-four-trees-start invariant-loop decreases-loop
+part-four-trees-start : tie.Need-slice_bounds-four_trees-start invariant-loop decreases-loop
 part-four-trees-start c = omega (arith, room c)
 
-part-four-trees-end : tie.Need-slice-bounds-four-trees-end invariant-loop decreases-loop
+part-four-trees-end : tie.Need-slice_bounds-four_trees-end invariant-loop decreases-loop
 part-four-trees-end c = omega (arith, room c, c.before.before.before.before.requires.1)
 
-sub-four-trees-2 : tie.Need-overflow-sub-four-trees-2 invariant-loop decreases-loop
+sub-four-trees-2 : tie.Need-slice_bounds-four_trees-count-in-loop-i invariant-loop decreases-loop
 sub-four-trees-2 c = omega (arith, room c.before)
 
-part-four-trees-start-2 : tie.Need-slice-bounds-four-trees-start-2 invariant-loop decreases-loop
+part-four-trees-start-2 : tie.Need-slice_bounds-four_trees-start-in-loop-i invariant-loop decreases-loop
 part-four-trees-start-2 c = omega (arith, room c.before)
 
-part-four-trees-end-2 : tie.Need-slice-bounds-four-trees-end-2 invariant-loop decreases-loop
-part-four-trees-end-2 c = omega (arith, room c.before, c.before.before.loop.invariant.laid.len)
+part-four-trees-end-2 : tie.Need-slice_bounds-four_trees-end-in-loop-i invariant-loop decreases-loop
+part-four-trees-end-2 c = omega (arith, room c.before, c.before.before.loop-i.invariant.laid.len)
 
-four-trees-requires : tie.Need-four-trees-requires invariant-loop decreases-loop
+four-trees-requires : tie.Need-four_trees-requires invariant-loop decreases-loop
 four-trees-requires c κs = let s = entry c.before.before in
-    let w = c.before.before.before.loop in
+    let w = c.before.before.before.loop-i in
     let here = room c.before.before in
     let k = s.args.k in
     let size : (w.i + 4) * (32 * k) - w.i * (32 * k) ≡ 4 * (32 * k) = omega (arith, here) in
     let size₂ : (w.i + 4) * k - w.i * k ≡ 4 * k = omega (arith, here) in (
       record {
-        deep = s.pre.0.deep;
-        shallow = s.pre.0.shallow;
-        long = mid_len (w.i * k) ((w.i + 4) * k) s.args.sides.now (omega (arith, here, s.pre.1)) ∙ size₂;
-        low = part-lt (w.i * k) ((w.i + 4) * k - w.i * k) s.args.sides.now 2 (omega arith) s.pre.2;
+        deep = s.requires.0.deep;
+        shallow = s.requires.0.shallow;
+        long = mid_len (w.i * k) ((w.i + 4) * k) s.args.sides.now (omega (arith, here, s.requires.1)) ∙ size₂;
+        low = part-lt (w.i * k) ((w.i + 4) * k - w.i * k) s.args.sides.now 2 (omega arith) s.requires.2;
       },
       mid_len (w.i * (32 * k)) ((w.i + 4) * (32 * k)) w.siblings (omega (arith, here, w.invariant.laid.len)) ∙ size,
     )
 
-loop-less : tie.Need-loop-smaller invariant-loop decreases-loop
+loop-less : tie.Need-loop-i-smaller invariant-loop decreases-loop
 loop-less c = omega (arith, room c.before.before.before.before.before)
 
-loop-again : tie.Need-loop-preserved invariant-loop decreases-loop
+loop-again : tie.Need-loop-i-preserved invariant-loop decreases-loop
 loop-again c =
     let s = entry c.before.before.before.before.before in
-    let w = c.before.before.before.before.before.before.loop in
+    let w = c.before.before.before.before.before.before.loop-i in
     let here = room c.before.before.before.before.before in
     let k = s.args.k in
     let sides = s.args.sides.now in
@@ -131,23 +131,23 @@ loop-again c =
     let turn : k * 32 ≡ m = omega arith in
     let whole : 4 * m ≡ e - a = omega (arith, here) in
     let size = concat-length (λ j. f (w.i + j)) m 4 (λ j h. found-length _ _ k ∙ turn) ∙ whole in
-    let made = c.before.before.four-trees.ensures ∙ four-found k w.i sides totals w.siblings w.invariant.rest in
+    let made = c.before.before.four_trees.ensures ∙ four-found k w.i sides totals w.siblings w.invariant.rest in
     record {
       fours = omega (arith, w.invariant.fours);
       laid = laid_more s.args.n m f w.i 4 w.siblings _ made (λ j h. found-length _ _ k ∙ turn) here.0 w.invariant.laid;
       rest = rest-kept a e w.siblings _ totals _ made size (omega (arith, here)) (omega (arith, here, w.invariant.laid.len)) w.invariant.rest;
     }
 
-same_length : tie.Need-same-length invariant-loop decreases-loop
+same_length : tie.Need-shape_of-siblings invariant-loop decreases-loop
 same_length c =
     let s = c.before.before.before.before in
-    c.before.loop.invariant.laid.len ∙ sym s.requires.3
+    c.before.loop-i.invariant.laid.len ∙ sym s.requires.3
 
 returns : tie.Need-returns invariant-loop decreases-loop
-returns c = laid-all _ _ _ _ c.before.loop.siblings (omega arith) c.before.loop.invariant.laid
+returns c = laid-all _ _ _ _ c.before.loop-i.siblings (omega arith) c.before.loop-i.invariant.laid
 
-pub all-trees-spec : {M : Type 1} → statement M
-all-trees-spec =
+pub all_trees_spec : {M : Type 1} → statement M
+all_trees_spec =
     tie.close
     (tie.spec
     invariant-loop

@@ -6,31 +6,31 @@ use borrow.Author.Rules.{rules}
 use Rattle.setup.proofs.sender.four_in_lanes.Statement.{statement}
 use Rattle.setup.proofs.sender.four_in_lanes.Tie as tie
 
-load-lanes-requires : tie.Need-load-lanes-requires
+load-lanes-requires : tie.Need-load_lanes-requires
 load-lanes-requires c κs =
     let s = c.before.before.before.before.before.before in
     omega (arith, s.requires.0.1, s.requires.1.s-long)
 
-all-levels-requires : tie.Need-all-levels-requires
+all-levels-requires : tie.Need-all_levels-requires
 all-levels-requires c κs =
     let s = c.before.before.before.before.before.before.before.before.before.before.before in
-    let long = c.before.before.before.before.load-lanes.auto.0 ∙ s.requires.1.s-long in
+    let long = c.before.before.before.before.load_lanes.auto.t ∙ s.requires.1.s-long in
     (s.requires.0.0, record { t-long = s.requires.1.t-long; s-long = long; zero = s.requires.1.zero })
 
-store-lanes-requires : tie.Need-store-lanes-requires
+store-lanes-requires : tie.Need-store_lanes-requires
 store-lanes-requires c κs =
     let did = c.before.before.before.before.before.before in
     let had = did.before.before.before.before.before in
     let s = had.before.before.before.before.before.before.before in
-    omega (arith, s.requires.0.1, s.requires.1.s-long, did.all-levels.auto.1.1.1.0 ∙ had.load-lanes.auto.0)
+    omega (arith, s.requires.0.1, s.requires.1.s-long, did.all_levels.auto.s ∙ had.load_lanes.auto.t)
 
-same_length : tie.Need-same-length
+same_length : tie.Need-shape_of-siblings
 same_length c = search rules
 
-same-length-2 : tie.Need-same-length-2
+same-length-2 : tie.Need-shape_of-t
 same-length-2 c = search rules
 
-same-length-3 : tie.Need-same-length-3
+same-length-3 : tie.Need-shape_of-s
 same-length-3 c = search rules
 
 returns : tie.Need-returns
@@ -38,12 +38,12 @@ returns c =
     let did = c.before.before.before.before.before.before.before.before.before in
     let had = did.before.before.before.before.before in
     let s = had.before.before.before.before.before.before.before in
-    let long = did.all-levels.auto.1.1.1.0 ∙ had.load-lanes.auto.0 ∙ s.requires.1.s-long in
-    through-lanes s.args.k s.args.sides.now s.args.siblings.now s.args.s.now _ did.all-levels.new.1.1.1.0 _
-    s.requires.1.s-long long had.load-lanes.ensures did.all-levels.ensures c.before.before.store-lanes.ensures
+    let long = did.all_levels.auto.s ∙ had.load_lanes.auto.t ∙ s.requires.1.s-long in
+    through-lanes s.args.k s.args.sides.now s.args.siblings.now s.args.s.now _ did.all_levels.new.s _
+    s.requires.1.s-long long had.load_lanes.ensures did.all_levels.ensures c.before.before.store_lanes.ensures
 
-pub four-in-lanes-spec : {M : Type 1} → statement M
-four-in-lanes-spec =
+pub four_in_lanes_spec : {M : Type 1} → statement M
+four_in_lanes_spec =
     tie.close
     (tie.spec
     load-lanes-requires

@@ -9,31 +9,31 @@ use borrow.Author.Rules.{rules}
 use Rattle.setup.proofs.sender.four_trees.Statement.{statement}
 use Rattle.setup.proofs.sender.four_trees.Tie as tie
 
-mul-m : tie.Need-overflow-mul-m
+mul-m : tie.Need-overflow_mul-m
 mul-m c = omega (arith, c.before.before.requires.0.shallow)
 
-mul-n : tie.Need-overflow-mul-n
+mul-n : tie.Need-overflow_mul-n
 mul-n c = omega (arith, c.before.before.requires.0.shallow)
 
-sub-four-in-lanes : tie.Need-overflow-sub-four-in-lanes
+sub-four-in-lanes : tie.Need-slice_bounds-four_in_lanes-count
 sub-four-in-lanes c = search rules
 
-part-t-start : tie.Need-slice-bounds-t-start
+part-t-start : tie.Need-slice_bounds-t-start
 part-t-start c = search rules
 
-part-t-end : tie.Need-slice-bounds-t-end
+part-t-end : tie.Need-slice_bounds-t-end
 part-t-end c = omega (arith, c.before.before.before.requires.0.shallow)
 
-sub-four-in-lanes-2 : tie.Need-overflow-sub-four-in-lanes-2
+sub-four-in-lanes-2 : tie.Need-slice_bounds-four_in_lanes-count-2
 sub-four-in-lanes-2 c = search rules
 
-part-s-start : tie.Need-slice-bounds-s-start
+part-s-start : tie.Need-slice_bounds-s-start
 part-s-start c = search rules
 
-part-s-end : tie.Need-slice-bounds-s-end
+part-s-end : tie.Need-slice_bounds-s-end
 part-s-end c = omega (arith, c.before.before.before.before.requires.0.shallow)
 
-four-in-lanes-requires : tie.Need-four-in-lanes-requires
+four-in-lanes-requires : tie.Need-four_in_lanes-requires
 four-in-lanes-requires c κs = let s = c.before.before.before.before.before in
     let long : length (replicate {A = ℕ} 512 0) ≡ 512 = length-replicate {A = ℕ} 512 0 in
     let long₂ : length (replicate {A = ℕ} 256 0) ≡ 256 = length-replicate {A = ℕ} 256 0 in
@@ -47,14 +47,14 @@ four-in-lanes-requires c κs = let s = c.before.before.before.before.before in
       },
     )
 
-same_length : tie.Need-same-length
+same_length : tie.Need-shape_of-siblings
 same_length c = search rules
 
 returns : tie.Need-returns
-returns c = c.before.before.before.before.four-in-lanes.ensures
+returns c = c.before.before.before.before.four_in_lanes.ensures
 
-pub four-trees-spec : {M : Type 1} → statement M
-four-trees-spec =
+pub four_trees_spec : {M : Type 1} → statement M
+four_trees_spec =
     tie.close
     (tie.spec
     mul-m

@@ -16,10 +16,10 @@ use Rattle.setup.proofs.sender.next_level.Statement.{statement}
 use Rattle.setup.proofs.sender.next_level.Tie as tie
 
 -- where the proof comes back to: the calls before, and the entry
-abbrev entry : tie.After-totals-arg → tie.Start
+abbrev entry : tie.After-totals-arg-1 → tie.Start
 entry c = c.before.before.before.before.before.before.before
 
-abbrev at_totals : tie.After-of-four → tie.After-totals
+abbrev at_totals : tie.After-of_four → tie.After-totals
 at_totals c = c.before.before.before.before.before.before
 
 -- what is asked of the numbers
@@ -30,31 +30,31 @@ fits : (s : tie.Start)
     × (length s.args.s.now ≡ 32 * s.args.k)
 fits s = (s.requires.0.0, s.requires.0.1.shallow, s.requires.1.0, s.requires.1.1)
 
-add-next : tie.Need-overflow-add-next
+add-next : tie.Need-overflow_add-next
 add-next c = omega (arith, fits c.before.before.before)
 
-mul-nodes-at : tie.Need-overflow-mul-nodes-at
+mul-nodes-at : tie.Need-overflow_mul-level
 mul-nodes-at c = omega (arith, fits c.before.before.before.before)
 
-nodes-at-requires : tie.Need-nodes-at-requires
+nodes-at-requires : tie.Need-nodes_at-nodes-requires
 nodes-at-requires c κs = omega (arith, fits c.before.before.before.before)
 
-mul-below : tie.Need-overflow-mul-below
+mul-below : tie.Need-overflow_mul-below
 mul-below c = omega (arith, fits c.before.before.before.before.before)
 
-sub-totals : tie.Need-overflow-sub-totals
+sub-totals : tie.Need-overflow_sub-k
 sub-totals c = omega (arith, fits c.before.before.before.before.before.before)
 
-mul-totals : tie.Need-overflow-mul-totals
+mul-totals : tie.Need-offset_bounds-t-below
 mul-totals c = omega (arith, fits c.before.before.before.before.before.before)
 
-sub-totals-2 : tie.Need-overflow-sub-totals-2
+sub-totals-2 : tie.Need-slice_bounds-totals-count
 sub-totals-2 c = omega (arith, fits c.before.before.before.before.before.before)
 
-part-totals-start : tie.Need-slice-bounds-totals-start
+part-totals-start : tie.Need-slice_bounds-totals-start
 part-totals-start c = omega (arith, fits c.before.before.before.before.before.before)
 
-part-totals-end : tie.Need-slice-bounds-totals-end
+part-totals-end : tie.Need-slice_bounds-totals-end
 part-totals-end c = omega (arith, fits c.before.before.before.before.before.before)
 
 totals-requires : tie.Need-totals-requires
@@ -68,53 +68,53 @@ totals-requires c κs =
 -- t, back from the walk
 added : (c : tie.After-totals)
     → let s = entry c.before in
-    TotalsAdded s.args.k s.args.level s.args.t.now s.args.s.now c.totals.new.1.1.0
+    TotalsAdded s.args.k s.args.level s.args.t.now s.args.s.now c.totals.new.t
 added c =
     let s = entry c.before in
-    totals-back s.args.k s.args.level s.args.t.now s.args.s.now _ _ s.pre.0.0 s.pre.1.0 c.totals.ensures
-    c.before.before.before.nodes-at.ensures
+    totals-back s.args.k s.args.level s.args.t.now s.args.s.now _ _ s.requires.0.0 s.requires.1.0 c.totals.ensures
+    c.before.before.before.nodes_at-nodes.ensures
 
-mul-first : tie.Need-overflow-mul-first
+mul-first : tie.Need-overflow_mul-first
 mul-first c = omega (arith, fits (entry c.before.before.before))
 
-add-last : tie.Need-overflow-add-last
+add-last : tie.Need-overflow_add-last
 add-last c = omega (arith, fits (entry c.before.before.before))
 
-add-end : tie.Need-overflow-add-end
+add-end : tie.Need-overflow_add-end
 add-end c = omega (arith, fits (entry c.before.before.before))
 
-mul-take-off : tie.Need-overflow-mul-take-off
+mul-take-off : tie.Need-offset_bounds-s-first
 mul-take-off c = omega (arith, fits (entry c.before.before.before))
 
-sub-take-off : tie.Need-overflow-sub-take-off
+sub-take-off : tie.Need-slice_bounds-take_off-count
 sub-take-off c = omega (arith, fits (entry c.before.before.before))
 
-part-take-off-start : tie.Need-slice-bounds-take-off-start
+part-take-off-start : tie.Need-slice_bounds-take_off-start
 part-take-off-start c = omega (arith, fits (entry c.before.before.before))
 
-part-take-off-end : tie.Need-slice-bounds-take-off-end
+part-take-off-end : tie.Need-slice_bounds-take_off-end
 part-take-off-end c = omega (arith, fits (entry c.before.before.before))
 
-mul-take-off-2 : tie.Need-overflow-mul-take-off-2
+mul-take-off-2 : tie.Need-offset_bounds-t-below-2
 mul-take-off-2 c = omega (arith, fits (entry c.before.before.before.before))
 
-sub-take-off-2 : tie.Need-overflow-sub-take-off-2
+sub-take-off-2 : tie.Need-slice_bounds-take_off-count-2
 sub-take-off-2 c = omega (arith, fits (entry c.before.before.before.before))
 
-part-take-off-start-2 : tie.Need-slice-bounds-take-off-start-2
+part-take-off-start-2 : tie.Need-slice_bounds-take_off-start-2
 part-take-off-start-2 c = omega (arith, fits (entry c.before.before.before.before.before))
 
-part-take-off-end-2 : tie.Need-slice-bounds-take-off-end-2
+part-take-off-end-2 : tie.Need-slice_bounds-take_off-end-2
 part-take-off-end-2 c =
     let walked = c.before.before.before.before in
     omega (arith, fits walked.before.before.before.before.before.before.before.before, (added walked).1)
 
-of-four-requires : tie.Need-of-four-requires
+of-four-requires : tie.Need-of_four-requires
 of-four-requires c κs =
     let s = entry c.before.before.before.before.before.before in
-    (omega (arith, s.pre.0.0), s.pre.0.1.long)
+    (omega (arith, s.requires.0.0), s.requires.0.1.long)
 
-take-off-requires : tie.Need-take-off-requires
+take-off-requires : tie.Need-take_off-requires
 take-off-requires c κs =
     let s = entry (at_totals c).before in
     let k = s.args.k in
@@ -125,13 +125,13 @@ take-off-requires c κs =
       part_length (64 * next) (64 * next + 64 - 64 * next) _ (omega (arith, fits s, (added (at_totals c)).1)) ∙ totals,
       λ i.
           rw c.of_four.ensures
-          (tabulate-lt 4 2 (λ i. get_or s.args.sides.now (i * k + next) 0) (omega arith) (λ i. s.pre.0.1.low (i * k + next)) i),
+          (tabulate-lt 4 2 (λ i. get_or s.args.sides.now (i * k + next) 0) (omega arith) (λ i. s.requires.0.1.low (i * k + next)) i),
     )
 
-same_length : tie.Need-same-length
+same_length : tie.Need-shape_of-t
 same_length c = (added (at_totals c.before.before.before)).1
 
-same-length-2 : tie.Need-same-length-2
+same-length-2 : tie.Need-shape_of-s
 same-length-2 c = search rules
 
 returns : tie.Need-returns
@@ -141,22 +141,22 @@ returns c =
     let next : ℕ = s.args.level + 1 in
     let a : ℕ = 64 * next in
     let b : ℕ = 32 * next in
-    let t = put_mid a (length s.args.t.now - a) s.args.t.now (at_totals c.before.before.before).totals.new.1.1.0 in
+    let t = put_mid a (length s.args.t.now - a) s.args.t.now (at_totals c.before.before.before).totals.new.t in
     let sides = c.before.before.before.of_four in
     let side : ℕ → ℕ = λ i. get_or s.args.sides.now (i * k + next) 0 in
     let long : length (part b (b + 32 - b) s.args.s.now) ≡ b + 32 - b = mid_len b (b + 32) s.args.s.now (omega (arith, fits s)) in (
       (added (at_totals c.before.before.before)).0,
       part-added b (b + 32) 32 s.args.s.now _ _ refl
-          (c.before.before.take-off.ensures
+          (c.before.before.take_off.ensures
           ∙ xor_each-cong (part b (b + 32 - b) s.args.s.now) _ (λ i. get_or t (a + (32 * side (i % 4) + i)) 0)
           (λ i h.
           ap (λ (x : ℕ). get_or (part a (a + 64 - a) t) (32 * x + i) 0)
           (ap (λ (z : List ℕ). get_or z (i % 4) 0) sides.ensures ∙ tabulate-at 4 side (i % 4) (omega arith))
-          ∙ part_at a (a + 64 - a) t (32 * side (i % 4) + i) (omega (arith, long, s.pre.0.1.low (i % 4 * k + next))))),
+          ∙ part_at a (a + 64 - a) t (32 * side (i % 4) + i) (omega (arith, long, s.requires.0.1.low (i % 4 * k + next))))),
     )
 
-pub next-level-spec : {M : Type 1} → statement M
-next-level-spec =
+pub next_level_spec : {M : Type 1} → statement M
+next_level_spec =
     tie.close
     (tie.spec
     add-next
