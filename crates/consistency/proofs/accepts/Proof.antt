@@ -16,7 +16,7 @@ abbrev entry : tie.After-fold_columns → tie.Start
 entry c = c.before.before.before.before.before.before.before
 
 abbrev at-folds : tie.After-all_equal-arg-1 → tie.After-fold_columns
-at-folds c = c.before.before.before
+at-folds c = c.before.before
 
 table-requires : tie.Need-table-t-requires
 table-requires c κs = search rules
@@ -62,8 +62,8 @@ part-all-equal-start c = omega arith
 
 part-all-equal-end : tie.Need-slice_bounds-all_equal-end
 part-all-equal-end c =
-    let s = entry c.before.before in
-    let folded = c.before.before.fold_columns in
+    let s = entry c.before in
+    let folded = c.before.fold_columns in
     let size : ℕ = 8 * s.args.m in
     let long = same_len_mid 0 (size - 0) (replicate 1024 0) folded.new.out folded.auto.out in
     omega (arith, s.requires.1, long, length-replicate {A = ℕ} 1024 0)
@@ -71,13 +71,13 @@ part-all-equal-end c =
 all-equal-requires : tie.Need-all_equal-requires
 all-equal-requires c κs =
     let s = entry (at-folds c) in
-    (ap length (lent c.before.before.before) ∙ held c.before.before.before, s.requires.3, s.requires.4)
+    (ap length (lent c.before.before) ∙ held c.before.before, s.requires.3, s.requires.4)
 
 returns : tie.Need-returns
 returns c =
     let s = entry (at-folds c.before) in
-    let folded = c.before.before.before.before in
-    c.all_equal.ensures s.args.len s.args.key s.args.table-t.now s.fits.key.fits (λ i. ((at-folds c.before).before.before.before.before.before.before.shared_slice_known-1.given i).fits)
+    let folded = c.before.before.before in
+    c.all_equal.ensures s.args.len s.args.key s.args.table.now s.fits.key.fits (λ i. ((at-folds c.before).before.before.before.before.before.before.shared_slice_known-1.given i).fits)
     (lent folded ∙ folded.fold_columns.ensures s.args.key (at-folds c.before).before.before.before.table-t.ensures)
 
 pub accepts_spec : {M : Type 1} → statement M

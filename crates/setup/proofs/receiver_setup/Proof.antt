@@ -8,8 +8,8 @@ use Rattle.answer.proofs.Order.{new-when, old-when}
 use Rattle.sizes.specs.Sizes.{trees_of}
 use Rattle.setup.specs.Setup.{message_of}
 use Rattle.setup.proofs.Answers.{receiver-fits, receiver-work}
-use Rattle.setup.proofs.receiver_setup-answer.Statement.{statement}
-use Rattle.setup.proofs.receiver_setup-answer.Tie as tie
+use Rattle.setup.proofs.receiver_setup.Statement.{statement}
+use Rattle.setup.proofs.receiver_setup.Tie as tie
 
 receiver-setup-requires : tie.Need-receiver_setup-answer-requires
 receiver-setup-requires c κs = search rules
@@ -41,7 +41,7 @@ returns c =
       answered = t.before.before.receiver_setup-answer.ensures;
       written =
           c.before.before.write_message.ensures
-          ∙ ap (λ (n : ℕ). message_of n a.width a.roots.now a.base-pads.now) n.trees_of-n.ensures
+          ∙ ap (λ (n : ℕ). message_of n a.width a.roots.now a.base_pads.now) n.trees_of-n.ensures
           ∙ sym (new-when t.before.before.receiver_setup-answer.result _ _ (done t));
     }
 
@@ -49,7 +49,7 @@ returns-2 : tie.Need-returns-else-is_done
 returns-2 c =
     let a = c.before.before.before.before.before.before.args in
     let x = c.before.before.receiver_setup-answer in
-    let made = message_of (trees_of a.width) a.width a.roots.now a.base-pads.now in
+    let made = message_of (trees_of a.width) a.width a.roots.now a.base_pads.now in
     record {
       answered = x.ensures;
       written = sym (old-when x.result made a.message.now (sym c.before.is_done.ensures ∙ c.if-is_done.false));

@@ -8,8 +8,8 @@ use Rattle.answer.proofs.Order.{new-when, old-when}
 use Rattle.sizes.specs.Sizes.{trees_of}
 use Rattle.setup.specs.Setup.{siblings_of}
 use Rattle.setup.proofs.Answers.{sender-fits, sender-work}
-use Rattle.setup.proofs.sender_setup-answer.Statement.{statement}
-use Rattle.setup.proofs.sender_setup-answer.Tie as tie
+use Rattle.setup.proofs.sender_setup.Statement.{statement}
+use Rattle.setup.proofs.sender_setup.Tie as tie
 
 sender-setup-requires : tie.Need-sender_setup-answer-requires
 sender-setup-requires c κs = search rules
@@ -41,7 +41,7 @@ returns c =
       answered = t.before.before.sender_setup-answer.ensures;
       written =
           c.before.before.find_siblings.ensures
-          ∙ ap (λ (n : ℕ). siblings_of n a.width a.delta.now a.base-pads.now a.message.now) n.trees_of-n.ensures
+          ∙ ap (λ (n : ℕ). siblings_of n a.width a.delta.now a.base_pads.now a.message.now) n.trees_of-n.ensures
           ∙ sym (new-when t.before.before.sender_setup-answer.result _ _ (done t));
     }
 
@@ -49,7 +49,7 @@ returns-2 : tie.Need-returns-else-is_done
 returns-2 c =
     let a = c.before.before.before.before.before.before.before.args in
     let x = c.before.before.sender_setup-answer in
-    let made = siblings_of (trees_of a.width) a.width a.delta.now a.base-pads.now a.message.now in
+    let made = siblings_of (trees_of a.width) a.width a.delta.now a.base_pads.now a.message.now in
     record {
       answered = x.ensures;
       written = sym (old-when x.result made a.siblings.now (sym c.before.is_done.ensures ∙ c.if-is_done.false));

@@ -46,7 +46,7 @@ front_fits n ys rest e = omega (arith, length-append ys rest)
 
 part-store-lanes-end : tie.Need-slice_bounds-store_lanes-end
 part-store-lanes-end c =
-    let b = c.before.before.before in
+    let b = c.before.before in
     let s = b.before.before.before.before.before.before.before.before.before in
     let n : ℕ = 64 * s.args.k in
     let made = zeros-added 512 n _ _ b.totals.ensures (omega (arith, s.requires.0)) in
@@ -63,7 +63,7 @@ same_length c = search rules
 
 returns : tie.Need-returns
 returns c =
-    let b = c.before.before.before.before.before.before.before.before.before.before.before in
+    let b = c.before.before.before.before.before.before.before.before.before.before in
     let s = b.before.before.before.before.before.before.before.before.before in
     let k = s.args.k in
     let t : List ℕ = b.totals.new.t in

@@ -52,16 +52,16 @@ part-find-by-sides-start c = omega arith
 
 part-find-by-sides-end : tie.Need-slice_bounds-find_by_sides-end
 part-find-by-sides-end c =
-    let s = c.before.before.before.before.before.before.before.before in
-    let all = c.before.before.all in
+    let s = c.before.before.before.before.before.before.before in
+    let all = c.before.all in
     let m : ℕ = s.args.n * s.args.k in
     let long = same_len_mid 0 (m - 0) (replicate 128 0) all.new.out all.auto.out in
     omega (arith, s.requires.0.few, long, length-replicate {A = ℕ} 128 0)
 
 find-by-sides-requires : tie.Need-find_by_sides-requires
 find-by-sides-requires c κs =
-    let s = c.before.before.before.before.before.before.before.before.before.before in
-    let had = sides-are c.before.before.before.before in
+    let s = c.before.before.before.before.before.before.before.before.before in
+    let had = sides-are c.before.before.before in
     let m : ℕ = s.args.n * s.args.k in (
       s.requires.0,
       ap length had ∙ sides-length m s.args.k s.args.delta.now,
@@ -75,7 +75,7 @@ same_length : tie.Need-shape_of-siblings
 same_length c = omega arith
 
 returns : tie.Need-returns
-returns c = c.before.before.find_by_sides.ensures c.before.before.before.before.before.before.before.before.before.before.before.before.before.args.delta.now (sides-are c.before.before.before.before.before.before.before)
+returns c = c.before.before.find_by_sides.ensures c.before.before.before.before.before.before.before.before.before.before.before.before.args.delta.now (sides-are c.before.before.before.before.before.before)
 
 pub find_siblings_spec : {M : Type 1} → statement M
 find_siblings_spec =

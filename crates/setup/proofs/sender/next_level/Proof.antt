@@ -17,10 +17,10 @@ use Rattle.setup.proofs.sender.next_level.Tie as tie
 
 -- where the proof comes back to: the calls before, and the entry
 abbrev entry : tie.After-totals-arg-1 → tie.Start
-entry c = c.before.before.before.before.before.before.before
+entry c = c.before.before.before.before.before.before
 
 abbrev at_totals : tie.After-of_four → tie.After-totals
-at_totals c = c.before.before.before.before.before.before
+at_totals c = c.before.before.before.before.before
 
 -- what is asked of the numbers
 fits : (s : tie.Start)
@@ -34,28 +34,28 @@ add-next : tie.Need-overflow_add-next
 add-next c = omega (arith, fits c.before.before.before)
 
 mul-nodes-at : tie.Need-overflow_mul-level
-mul-nodes-at c = omega (arith, fits c.before.before.before.before)
+mul-nodes-at c = omega (arith, fits c.before.before.before)
 
 nodes-at-requires : tie.Need-nodes_at-nodes-requires
-nodes-at-requires c κs = omega (arith, fits c.before.before.before.before)
+nodes-at-requires c κs = omega (arith, fits c.before.before.before)
 
 mul-below : tie.Need-overflow_mul-below
-mul-below c = omega (arith, fits c.before.before.before.before.before)
+mul-below c = omega (arith, fits c.before.before.before.before)
 
 sub-totals : tie.Need-overflow_sub-k
-sub-totals c = omega (arith, fits c.before.before.before.before.before.before)
+sub-totals c = omega (arith, fits c.before.before.before.before.before)
 
 mul-totals : tie.Need-offset_bounds-t-below
-mul-totals c = omega (arith, fits c.before.before.before.before.before.before)
+mul-totals c = omega (arith, fits c.before.before.before.before.before)
 
 sub-totals-2 : tie.Need-slice_bounds-totals-count
-sub-totals-2 c = omega (arith, fits c.before.before.before.before.before.before)
+sub-totals-2 c = omega (arith, fits c.before.before.before.before.before)
 
 part-totals-start : tie.Need-slice_bounds-totals-start
-part-totals-start c = omega (arith, fits c.before.before.before.before.before.before)
+part-totals-start c = omega (arith, fits c.before.before.before.before.before)
 
 part-totals-end : tie.Need-slice_bounds-totals-end
-part-totals-end c = omega (arith, fits c.before.before.before.before.before.before)
+part-totals-end c = omega (arith, fits c.before.before.before.before.before)
 
 totals-requires : tie.Need-totals-requires
 totals-requires c κs =
@@ -102,16 +102,16 @@ sub-take-off-2 : tie.Need-slice_bounds-take_off-count-2
 sub-take-off-2 c = omega (arith, fits (entry c.before.before.before.before))
 
 part-take-off-start-2 : tie.Need-slice_bounds-take_off-start-2
-part-take-off-start-2 c = omega (arith, fits (entry c.before.before.before.before.before))
+part-take-off-start-2 c = omega (arith, fits (entry c.before.before.before.before))
 
 part-take-off-end-2 : tie.Need-slice_bounds-take_off-end-2
 part-take-off-end-2 c =
-    let walked = c.before.before.before.before in
-    omega (arith, fits walked.before.before.before.before.before.before.before.before, (added walked).1)
+    let walked = c in
+    omega (arith, fits walked.before.before.before.before.before.before.before.before.before.before, (added walked.before.before.before).1)
 
 of-four-requires : tie.Need-of_four-requires
 of-four-requires c κs =
-    let s = entry c.before.before.before.before.before.before in
+    let s = entry c.before.before.before.before.before in
     (omega (arith, s.requires.0.0), s.requires.0.1.long)
 
 take-off-requires : tie.Need-take_off-requires

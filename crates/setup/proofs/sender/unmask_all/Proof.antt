@@ -81,7 +81,7 @@ part-unmask-end-3 : tie.Need-slice_bounds-unmask-end-in-loop-c-2 invariant-loop 
 part-unmask-end-3 c = omega (arith, c.before.before.before.loop-c.invariant.long, (entry c.before.before).requires.1)
 
 shared-slice-read-unmask : tie.Need-bounds-sides-c invariant-loop decreases-loop
-shared-slice-read-unmask c = omega (arith, (entry (turn c)).requires.0.0)
+shared-slice-read-unmask c = omega (arith, (entry c.before.before.before.before).requires.0.0)
 
 unmask-requires : tie.Need-unmask-requires invariant-loop decreases-loop
 unmask-requires c κs = let s = entry (turn c) in
