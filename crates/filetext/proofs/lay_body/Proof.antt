@@ -24,13 +24,13 @@ lay-named-requires c κs = room-first (left c.before.before.before.before.args.b
 
 lay-named-requires-2 : tie.Need-lay_named-next-requires-2
 lay-named-requires-2 c κs =
-    let kind = c.before.before.before.before in
+    let kind = c.before.before.before.before.before in
     room-first (digest_line kind.before.before.before.before.before.args.body.now) (room kind)
 
 lay-digest-requires : tie.Need-lay_digest-requires
 lay-digest-requires c κs =
     let size = c.before.before.before in
-    room_next (room size.before.before.before.before.before) size.lay_named-next-2.ensures
+    room_next (room size.before.before.before.before.before.before) size.lay_named-next-2.ensures
 
 same_length : tie.Need-shape_of-out
 same_length c = search rules
@@ -40,7 +40,7 @@ unfolding body_line
 returns c =
     let digest = c.before.before in
     let size = digest.before.before.before.before in
-    let kind = size.before.before.before.before.before in
+    let kind = size.before.before.before.before.before.before in
     laid_more kind.before.before.before.before.before.requires kind.lay_named-next.ensures
     (laid_more (room kind) size.lay_named-next-2.ensures digest.lay_digest.ensures)
 

@@ -58,7 +58,7 @@ part-lay-end c = simp length-set (omega arith)
 
 lay-requires : tie.Need-lay-requires invariant-loop decreases-loop
 lay-requires c κs =
-    let all = written_all c.before.before.before.before.loop-rest.invariant _ c.before.before.before.loop-rest-test.false refl in
+    let all = written_all c.before.before.before.loop-rest.invariant _ c.before.before.loop-rest-test.false refl in
     omega (arith, ap length all)
 
 same_length : tie.Need-shape_of-out invariant-loop decreases-loop
@@ -67,7 +67,7 @@ same_length c = search rules
 returns : tie.Need-returns invariant-loop decreases-loop
 returns c =
     let l = c.before.before in
-    let d = l.before.before.before.before in
+    let d = l.before.before.before in
     let all = written_all d.before.loop-rest.invariant _ d.loop-rest-test.false refl in
     laid_as all l.lay.ensures
 

@@ -35,7 +35,7 @@ lay-hex-requires : tie.Need-lay_hex-next-requires
 lay-hex-requires c κs = room-first (codes "\n") (room c.before)
 
 lay-requires-2 : tie.Need-lay-requires
-lay-requires-2 c κs = room_next (room c.before.before.before.before.before.before) c.before.before.before.before.lay_hex-next.ensures
+lay-requires-2 c κs = room_next (room c.before.before.before.before.before.before.before) c.before.before.before.before.before.lay_hex-next.ensures
 
 same_length : tie.Need-shape_of-out
 same_length c = search rules
@@ -44,7 +44,7 @@ returns : tie.Need-returns
 unfolding digest_line
 returns c =
     let last = c.before.before in
-    let hex = last.before.before.before.before.before in
+    let hex = last.before.before.before.before.before.before in
     let digest = hex.before.before in
     let name = digest.before.before.before.before in
     laid_more name.before.before.before.before.before.requires name.lay-next.ensures

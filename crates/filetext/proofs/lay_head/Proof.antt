@@ -24,7 +24,7 @@ room-blocks c = room_next c.before.before.before.before.before.requires c.lay_na
 room-batch : (c : tie.After-lay_named-next-2)
     → Room c.lay_named-next-2.new.out c.lay_named-next-2.result
     (after_blocks c.before.before.before.before.before.before.before.before.before.before.before.args.head)
-room-batch c = room_next (room-blocks c.before.before.before.before.before.before) c.lay_named-next-2.ensures
+room-batch c = room_next (room-blocks c.before.before.before.before.before.before.before) c.lay_named-next-2.ensures
 
 cast-lay-named : tie.Need-overflow_cast-head
 cast-lay-named c = search rules
@@ -39,16 +39,16 @@ cast-lay-named-2 c = search rules
 
 lay-named-requires-2 : tie.Need-lay_named-next-requires-2
 lay-named-requires-2 c κs =
-    let width = c.before.before.before.before.before in
+    let width = c.before.before.before.before.before.before in
     room-first (after_blocks width.before.before.before.before.before.args.head) (room-blocks width)
 
 lay-named-requires-3 : tie.Need-lay_named-next-requires-3
-lay-named-requires-3 c κs = room-first (codes "\n") (room-batch c.before.before.before.before)
+lay-named-requires-3 c κs = room-first (codes "\n") (room-batch c.before.before.before.before.before)
 
 lay-requires : tie.Need-lay-requires
 lay-requires c κs =
-    let batch = c.before.before.before.before in
-    room_next (room-batch batch.before.before.before.before.before) batch.lay_named-next-3.ensures
+    let batch = c.before.before.before.before.before in
+    room_next (room-batch batch.before.before.before.before.before.before) batch.lay_named-next-3.ensures
 
 same_length : tie.Need-shape_of-out
 same_length c = search rules
@@ -57,9 +57,9 @@ returns : tie.Need-returns
 unfolding head_line
 returns c =
     let last = c.before.before in
-    let batch = last.before.before.before.before.before in
-    let blocks = batch.before.before.before.before.before in
-    let width = blocks.before.before.before.before.before.before in
+    let batch = last.before.before.before.before.before.before in
+    let blocks = batch.before.before.before.before.before.before in
+    let width = blocks.before.before.before.before.before.before.before in
     laid_more width.before.before.before.before.before.requires width.lay_named-next.ensures
     (laid_more (room-blocks width) blocks.lay_named-next-2.ensures
     (laid_more (room-batch blocks) batch.lay_named-next-3.ensures last.lay.ensures))

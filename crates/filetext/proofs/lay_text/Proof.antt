@@ -63,11 +63,11 @@ is-done-requires : tie.Need-is_done-requires
 is-done-requires c κs = search rules
 
 lay-head-requires : tie.Need-lay_head-next-requires
-lay-head-requires c κs = room-first (body_lines c.before.before.before.before.before.before.before.args.input.now) (room c.before)
+lay-head-requires c κs = room-first (body_lines c.before.before.before.before.before.before.before.args.input.now) (room c.before.before)
 
 lay-bodies-requires : tie.Need-lay_bodies-requires
 lay-bodies-requires c κs =
-    let t = c.before.before.before.before.before in
+    let t = c.before.before.before.before.before.before in
     (taken t, room_next (room t) c.before.before.before.lay_head-next.ensures)
 
 same-length-2 : tie.Need-shape_of-out-then-is_done
@@ -77,7 +77,7 @@ returns-2 : tie.Need-returns-then-is_done
 returns-2 c =
     let bodies = c.before.before in
     let head = bodies.before.before.before.before in
-    let t = head.before.before in
+    let t = head.before.before.before in
     laid_as (sym (text t)) (laid_more (room t) head.lay_head-next.ensures bodies.lay_bodies.ensures)
 
 number-of-requires : tie.Need-number_of-requires

@@ -18,29 +18,29 @@ use Rattle.filewriter.proofs.write_answer.Statement.{statement}
 use Rattle.filewriter.proofs.write_answer.Tie as tie
 
 -- the reader's rules
-abbrev rules : tie.Start → Order
-rules s =
+abbrev reader_rules : tie.Start → Order
+reader_rules s =
     let a = s.args in
     file_order a.width a.batch a.blocks (not (eqb a.setup 0)) a.setup a.correction (length a.key.now) a.check (little_endian a.key.now)
 
-given : (c : tie.After-answer-answer) → c.answer-answer.result ≡ first_of (rules c.before.before.before)
+given : (c : tie.After-answer-answer) → c.answer-answer.result ≡ first_of (reader_rules c.before.before.before)
 given c =
     let a = c.before.before.before.args in
     c.answer-answer.ensures
     ∙ ap (λ (there : Bool). first_of (file_order a.width a.batch a.blocks there a.setup a.correction (length a.key.now) a.check (little_endian a.key.now)))
     c.before.is_there-there.ensures
 
-done : (c : tie.Then-is_done) → is_done (first_of (rules c.before.before.before.before.before)) ≡ true
+done : (c : tie.Then-is_done) → is_done (first_of (reader_rules c.before.before.before.before.before)) ≡ true
 done c = sym (ap is_done (given c.before.before)) ∙ sym c.before.is_done.ensures ∙ c.if-is_done.true
 
 -- where they hold
 ends : (c : tie.After-file_length)
     → let s = c.before.before.before.before.before.before in
-    first_of (rules s ++ (has s.args.file (file_length s.args.width s.args.blocks s.args.setup) ∷ []))
+    first_of (reader_rules s ++ (has s.args.file (file_length s.args.width s.args.blocks s.args.setup) ∷ []))
     ≡ cond (eqb s.args.file c.file_length.result) Done Length
 ends c =
     let s = c.before.before.before.before.before.before in
-    last-decides (rules s) _ Length (all_hold (rules s) refl (done c.before))
+    last-decides (reader_rules s) _ Length (all_hold (reader_rules s) refl (done c.before))
     ∙ ap (λ (n : ℕ). cond (eqb s.args.file n) Done Length) (sym c.file_length.ensures)
 
 is-there-requires : tie.Need-is_there-there-requires
@@ -58,7 +58,7 @@ file-length-requires c κs =
     let a = s.args in
     let told =
     file-fits a.width a.batch a.blocks (not (eqb a.setup 0)) a.setup a.correction (length a.key.now) a.check (little_endian a.key.now)
-    (all_hold (rules s) refl (done c)) in
+    (all_hold (reader_rules s) refl (done c)) in
     (told.width-right, told.few, setup-most s.args.setup told.setup-long)
 
 returns : tie.Need-returns-then-file-file_length
@@ -71,7 +71,7 @@ returns-3 : tie.Need-returns
 returns-3 c =
     let s = c.before.before.before.before.before in
     let first = given c.before.before in
-    first ∙ sym (first-refused (rules s) _ (sym (ap is_done first) ∙ sym c.before.is_done.ensures ∙ c.if-is_done.false))
+    first ∙ sym (first-refused (reader_rules s) _ (sym (ap is_done first) ∙ sym c.before.is_done.ensures ∙ c.if-is_done.false))
 
 pub write_answer_spec : {M : Type 1} → statement M
 write_answer_spec =
