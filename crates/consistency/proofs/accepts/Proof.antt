@@ -77,7 +77,7 @@ returns : tie.Need-returns
 returns c =
     let s = entry (at-folds c.before) in
     let folded = c.before.before.before in
-    c.all_equal.ensures s.args.len s.args.key s.args.table.now s.fits.key.fits (λ i. ((at-folds c.before).before.before.before.before.before.before.shared_slice_known-1.given i).fits)
+    c.all_equal.ensures s.args.len s.args.key s.args.table.now s.ranges.key.fits (λ i. ((at-folds c.before).before.before.before.before.before.before.shared_slice_known-1.given i).fits)
     (lent folded ∙ folded.fold_columns.ensures s.args.key (at-folds c.before).before.before.before.table-t.ensures)
 
 pub accepts_spec : {M : Type 1} → statement M
