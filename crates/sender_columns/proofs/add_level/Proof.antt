@@ -21,13 +21,13 @@ abbrev entry : tie.After-of_four-bit_zero → tie.Start
 entry c = c.before.before.before.before.before
 
 abbrev at-sides : tie.After-add_where → tie.After-of_four-bit_zero
-at-sides c = c.before.before.before
+at-sides c = c.before.before
 
 abbrev at-mask : tie.After-walk-arg-3-1 → tie.After-add_where
 at-mask c = c.before.before.before.before.before.before
 
-abbrev at-walk : tie.After-add-where-arg4 → tie.After-walk
-at-walk c = c.before.before.before.before.before.before
+abbrev at-walk : tie.After-add_where-arg-2-1 → tie.After-walk
+at-walk c = c.before.before.before.before.before
 
 -- word i of u where its lane's side at a level is 1
 abbrev of_side : ℕ → ℕ → List ℕ → List ℕ → ℕ → ℕ
@@ -73,14 +73,14 @@ part-add-where-end c = omega (arith, fits (entry c))
 
 add-where-requires : tie.Need-add_where-requires
 add-where-requires c κs =
-    let s = entry c.before.before in
+    let s = entry c.before in
     let n = length s.args.u.now in
     let at : ℕ = (s.args.k - 1 - s.args.level) * n in
     let size : at + n - at ≡ n = omega arith in (
       mid_len at (at + n) s.args.v.now (omega (arith, fits s)) ∙ size,
       omega (arith, s.requires.1.0),
       λ i.
-          rw c.before.before.of_four-bit_zero.ensures
+          rw c.before.of_four-bit_zero.ensures
           (tabulate-lt 4 2 (λ j. get_or s.args.sides.now (j * s.args.k + s.args.level) 0) (omega arith)
           (λ j. s.requires.0.3 (j * s.args.k + s.args.level)) i),
     )

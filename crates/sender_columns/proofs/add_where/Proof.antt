@@ -133,7 +133,7 @@ mul-d-2 : tie.Need-offset_bounds-u-i-in-loop-i-3 invariant-loop decreases-loop
 mul-d-2 c = omega (arith, room c.before.before.before.before.before.before.before, (entry c.before.before.before.before.before.before.before).well_formed)
 
 shared-slice-read-d : tie.Need-bounds-u-i-in-loop-i-3 invariant-loop decreases-loop
-shared-slice-read-d c = omega (arith, room (turn c))
+shared-slice-read-d c = omega (arith, room c.before.before.before.before.before.before.before.before)
 
 mul-v : tie.Need-offset_bounds-v-i-in-loop-i-4 invariant-loop decreases-loop
 mul-v c = omega (arith, room (turn c), (entry (turn c)).well_formed)

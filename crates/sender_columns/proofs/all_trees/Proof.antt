@@ -211,10 +211,10 @@ loop-again c =
     let e : ℕ = w.i * (k * len) in
     record {
       fours = omega (arith, w.invariant.fours);
-      s-long = f.kept.1.1.1.1.1.1.1.0 ∙ w.invariant.s-long;
-      u-long = f.kept.1.1.1.1.1.1.1.1.0 ∙ w.invariant.u-long;
-      v-long = f.kept.1.1.1.1.1.1.1.1.1.0 ∙ w.invariant.v-long;
-      table-long = same_len_mid e ((w.i + 4) * (k * len) - e) w.table f.last.1.1.1.1.1.1.1.1.1.1.0 f.kept.1.1.1.1.1.1.1.1.1.1.0 ∙ w.invariant.table-long;
+      s-long = f.auto.s ∙ w.invariant.s-long;
+      u-long = f.auto.u ∙ w.invariant.u-long;
+      v-long = f.auto.v ∙ w.invariant.v-long;
+      table-long = same_len_mid e ((w.i + 4) * (k * len) - e) w.table f.new.table f.auto.table ∙ w.invariant.table-long;
       columns = λ delta q.
           let column : ℕ → List ℕ → ℕ → List ℕ = λ j z b. sender_column k stream len z (delta_of k delta (w.i + j)) (tree_correction len correction (w.i + j)) b in
           let made =

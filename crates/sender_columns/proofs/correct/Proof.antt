@@ -52,16 +52,16 @@ part-all-columns-start c = omega arith
 
 part-all-columns-end : tie.Need-slice_bounds-all_columns-end
 part-all-columns-end c =
-    let s = c.before.before.before.before.before.before.before.before in
-    let all = c.before.before.all in
+    let s = c.before.before.before.before.before.before.before in
+    let all = c.before.all in
     let m : ℕ = s.args.n * s.args.k in
     let long = same_len_mid 0 (m - 0) (replicate 128 0) all.new.out all.auto.out in
     omega (arith, s.requires.0.0.few, long, length-replicate {A = ℕ} 128 0)
 
 all-columns-requires : tie.Need-all_columns-requires
 all-columns-requires c κs =
-    let s = c.before.before.before.before.before.before.before.before.before.before in
-    let had = sides-are c.before.before.before.before in
+    let s = c.before.before.before.before.before.before.before.before.before in
+    let had = sides-are c.before.before.before in
     let m : ℕ = s.args.n * s.args.k in (
       (
         s.requires.0.0,
@@ -79,7 +79,7 @@ same_length : tie.Need-shape_of-table
 same_length c = omega arith
 
 returns : tie.Need-returns
-returns c = c.before.before.all_columns.ensures c.before.before.before.before.before.before.before.before.before.before.before.before.before.args.delta.now (sides-are c.before.before.before.before.before.before.before)
+returns c = c.before.before.all_columns.ensures c.before.before.before.before.before.before.before.before.before.before.before.before.args.delta.now (sides-are c.before.before.before.before.before.before)
 
 pub correct_spec : {M : Type 1} → statement M
 correct_spec =

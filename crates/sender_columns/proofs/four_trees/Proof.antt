@@ -28,11 +28,11 @@ at_clear c = c.before.before.before.before.before.before.before
 abbrev at-corrections : tie.After-load_lanes → tie.After-load_corrections
 at-corrections c = c.before.before.before.before
 
-abbrev at-lanes : tie.After-add-levels-arg3 → tie.After-load_lanes
-at-lanes c = c.before.before.before.before.before
+abbrev at-lanes : tie.After-add_levels-arg-2-1 → tie.After-load_lanes
+at-lanes c = c.before.before.before.before
 
-abbrev at-levels : tie.After-store-trees-arg2 → tie.After-add_levels
-at-levels c = c.before.before.before.before.before.before
+abbrev at-levels : tie.After-store_trees-arg-1 → tie.After-add_levels
+at-levels c = c.before.before.before.before.before
 
 clear-requires : tie.Need-clear-requires
 clear-requires c κs = omega arith
@@ -54,9 +54,9 @@ load-corrections-requires c κs =
     let s = entry (at_clear c) in
     let len = s.args.len in
     let clear = (at_clear c).clear in
-    let cleared = clear.last.0 in
+    let cleared = clear.new.t in
     let cut : len - 0 ≡ len = omega arith in
-    let mid : length (mid_of 0 (len - 0) cleared) ≡ len = mid_len 0 len cleared (omega (arith, clear.kept.0, s.requires.1.1.room)) ∙ cut in
+    let mid : length (mid_of 0 (len - 0) cleared) ≡ len = mid_len 0 len cleared (omega (arith, clear.auto.t, s.requires.1.1.room)) ∙ cut in
     let zero : (j : ℕ) → get_or cleared j 0 ≡ 0 = λ j. ap (λ (z : List ℕ). get_or z j 0) clear.ensures ∙ zeros-at (length s.args.u.now) j in (
       s.requires.0.1.early,
       omega (arith, mid, s.requires.1.1.whole),
@@ -96,12 +96,12 @@ add-levels-requires c κs =
     let s = entry (at_clear (at-corrections (at-lanes c)).before) in
     let long = (loaded (at-corrections (at-lanes c))).0 in
     let clear = (at-corrections (at-lanes c)).before.before.before.before.clear-2 in (
-      (s.requires.1.1.shallow, s.requires.0.0.sides-long, s.requires.0.0.sides-low, c.before.before.before.before.before.load_lanes.auto.t ∙ s.requires.1.0),
+      (s.requires.1.1.shallow, s.requires.0.0.sides-long, s.requires.0.0.sides-low, c.before.before.before.before.load_lanes.auto.t ∙ s.requires.1.0),
       (
         omega (arith, long, s.requires.1.1.blocks),
         omega (arith, long, s.requires.1.1.short),
         omega (arith, long, s.requires.1.1.some, s.requires.1.1.room),
-        clear.kept.0 ∙ s.requires.1.1.columns ∙ ap (λ (n : ℕ). s.args.k * n) (sym long),
+        clear.auto.t ∙ s.requires.1.1.columns ∙ ap (λ (n : ℕ). s.args.k * n) (sym long),
         λ i. ap (λ (z : List ℕ). get_or z i 0) clear.ensures ∙ zeros-at (length s.args.v.now) i,
       ),
     )
@@ -110,8 +110,8 @@ store-trees-requires : tie.Need-store_trees-requires
 store-trees-requires c κs =
     let s = entry (at_clear (at-corrections (at-lanes (at-levels c).before)).before) in
     let done = (at-levels c).add_levels in
-    let long = done.kept.1.1.1.1.0 ∙ (loaded (at-corrections (at-lanes (at-levels c).before))).0 in
-    let all = done.kept.1.1.1.1.1.0 ∙ (at-corrections (at-lanes (at-levels c).before)).before.before.before.before.clear-2.auto.0 ∙ s.requires.1.1.columns ∙ ap (λ (n : ℕ). s.args.k * n) (sym long) in (
+    let long = done.auto.u ∙ (loaded (at-corrections (at-lanes (at-levels c).before))).0 in
+    let all = done.auto.v ∙ (at-corrections (at-lanes (at-levels c).before)).before.before.before.before.clear-2.auto.t ∙ s.requires.1.1.columns ∙ ap (λ (n : ℕ). s.args.k * n) (sym long) in (
       (s.requires.1.1.shallow, omega (arith, long, s.requires.1.1.room), omega (arith, long, s.requires.1.1.short), s.requires.1.1.whole),
       (omega (arith, all), s.requires.0.1.table-long),
     )
@@ -135,7 +135,7 @@ returns c d h =
     let len = s.args.len in
     let done = (at-levels c.before.before.before).add_levels in
     let u = loaded (at-corrections (at-lanes (at-levels c.before.before.before).before)) in
-    let v = done.last.1.1.1.1.1.0 in
+    let v = done.new.v in
     let siblings = (at-lanes (at-levels c.before.before.before).before).load_lanes in
     let words : length s.args.s.now / 4 ≡ 8 * k = omega (arith, s.requires.1.0) in
     let room : List ℕ = (at-corrections (at-lanes (at-levels c.before.before.before).before)).load_corrections.new.u ++ post_of 0 (len - 0) (at_clear (at-corrections (at-lanes (at-levels c.before.before.before).before)).before).clear.new.t in
@@ -145,10 +145,10 @@ returns c d h =
     let had : List ℕ = lane_bytes i (len / 4) room in
     concat-same k _ _
     (λ b hb.
-    ap (λ (n : ℕ). lane_bytes i (len / 4) (part (b * n) len v)) done.kept.1.1.1.1.0
+    ap (λ (n : ℕ). lane_bytes i (len / 4) (part (b * n) len v)) done.auto.u
     ∙ done.ensures d h len i b s.requires.1.1.whole (omega (arith, u.0, s.requires.1.1.room)) hi hb
     ∙ ap (λ (x : List ℕ). sender_column k (byte_of s.args.stream) len x (d i) had b)
-    (ap (λ (n : ℕ). lane_bytes i n siblings.last.0) (sym words)
+    (ap (λ (n : ℕ). lane_bytes i n siblings.new.t) (sym words)
     ∙ siblings.ensures i hi
     ∙ ap (λ (n : ℕ). part (i * n) n s.args.siblings.now) s.requires.1.0)
     ∙ same-correction k (byte_of s.args.stream) len (tree_part k 32 i s.args.siblings.now) (d i) had (tree_correction len s.args.correction.now (s.args.i + i)) b (u.1 i hi)))
