@@ -1,5 +1,6 @@
 // A batch on file: whether it may be read, its head, and where its bodies begin. Nothing of it is copied.
 #![tactic(auto)]
+
 pub mod values;
 
 ghost use Rattle.std.specs.Prelude.{◌≡◌, true, false, ◌&&◌, ◌+◌, ◌-◌, ◌^◌, ◌≤◌, ◌<◌, eqb, length};

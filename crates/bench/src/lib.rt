@@ -1,5 +1,6 @@
 // The primitives under names that C can call, for bench/ and tests/.
 #![tactic(auto)]
+
 ghost use Rattle.std.specs.Prelude.{◌≡◌, ℕ};
 ghost use Rattle.sha256.specs.Sha.{digest_of};
 ghost use Rattle.sha256_four.specs.FourDigests.{digests};

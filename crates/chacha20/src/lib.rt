@@ -1,5 +1,6 @@
 // The ChaCha20 block function of RFC 8439: one block, and what four side by side (`chacha20_four`) are made of too.
 #![tactic(auto)]
+
 pub mod one;
 
 ghost use Rattle.std.specs.Prelude.{◌≡◌, ◌+◌, ◌<◌, length};

@@ -1,5 +1,6 @@
 // Four blocks side by side, so that the compiler works on four words with one instruction: word w of lane l stands at 4w + l.
 #![tactic(auto)]
+
 ghost use Rattle.std.specs.Prelude.{◌≡◌, ◌*◌, ◌<◌, length};
 ghost use Rattle.words.specs.Bytes.{word32};
 ghost use Rattle.words.specs.Lanes.{lane, put_lane};

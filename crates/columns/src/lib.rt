@@ -1,5 +1,6 @@
 // What both sides do with the columns of four trees side by side: word w of lane l stands at 4w + l.
 #![tactic(auto)]
+
 ghost use Rattle.std.specs.Prelude.{◌≡◌, ◌+◌, ◌*◌, ◌/◌, ◌%◌, ◌≤◌, ◌<◌, length};
 ghost use Rattle.words.specs.Bytes.{part, concat};
 ghost use Rattle.words.specs.Lanes.{lane_bytes};

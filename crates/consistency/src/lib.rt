@@ -2,6 +2,7 @@
 // every byte of a column, at places that only the length decides, and all columns are looked at before the answer. The key and the
 // answer are public.
 #![tactic(auto)]
+
 ghost use Rattle.std.specs.Prelude.{◌≡◌, List, ℕ, ◌+◌, ◌*◌, ◌%◌, ◌^◌, ◌≤◌, ◌<◌, length, get_or};
 ghost use Rattle.words.specs.Bytes.{Bytes, bytes, word64, concat};
 ghost use Rattle.words.specs.Bits.{bit_at};

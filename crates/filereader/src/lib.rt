@@ -1,5 +1,6 @@
 // A reader over a batch file, which hands out each body as a part of the file: nothing is copied.
 #![tactic(auto)]
+
 ghost use Rattle.std.specs.Prelude.{◌≡◌};
 ghost use Rattle.batchfile.specs.File.{places_found};
 ghost use Rattle.filereader.specs.Reading.{PartOf, BodyPart, HandsOut, places_at, reader_over};

@@ -1,5 +1,6 @@
 // The text that the program batchprint prints, as a function of what it read.
 #![tactic(auto)]
+
 ghost use Rattle.std.specs.Prelude.{◌++◌};
 ghost use Rattle.words.specs.Pieces.{Room, Laid};
 ghost use Rattle.batchfile.specs.File.{Taken};

@@ -1,6 +1,7 @@
 // A batch written to a file, from its start to its end, so that the reader takes it and gives the same back. Of the bodies' bytes only the
 // key's are looked at.
 #![tactic(auto)]
+
 ghost use Rattle.std.specs.Prelude.{◌≡◌, true, not, [], ◌∷◌, ◌++◌, ◌^◌, ◌≤◌, ◌<◌, eqb, length};
 ghost use Rattle.words.specs.Bytes.{little_endian, bytes};
 ghost use Rattle.words.specs.Pieces.{Room, Laid};

@@ -1,5 +1,6 @@
 // The line that the program foldprint prints, as a function of its input.
 #![tactic(auto)]
+
 ghost use Rattle.std.specs.Prelude.{◌≡◌, ◌<◌};
 ghost use Rattle.foldtext.specs.Line.{is_input, hex_digit, fold_line, refused_line, line_of, Holds};
 

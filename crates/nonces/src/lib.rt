@@ -1,5 +1,6 @@
 // The nonce of ChaCha20's blocks.
 #![tactic(auto)]
+
 ghost use Rattle.std.specs.Prelude.{◌≡◌};
 ghost use Rattle.nonces.specs.Nonce.{nonce_of};
 

@@ -1,6 +1,7 @@
 // The answer of each step, from the record, the numbers and the lengths of the ranges: a chain of its conditions, in the order of the
 // definitions.
 #![tactic(auto)]
+
 ghost use Rattle.std.specs.Prelude.{◌≡◌, eqb};
 ghost use Rattle.answer.specs.declared.Answer.TheVariants.{Length};
 ghost use Rattle.answer.specs.Answer.{first_of};

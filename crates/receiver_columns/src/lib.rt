@@ -1,5 +1,6 @@
 // The receiver's start, four trees at a time.
 #![tactic(auto)]
+
 ghost use Rattle.std.specs.Prelude.{◌≡◌, ◌++◌, ℕ, ◌+◌, ◌-◌, ◌*◌, ◌/◌, ◌%◌, ◌≤◌, ◌<◌, length, take};
 ghost use Rattle.words.specs.Bytes.{part, put, concat};
 ghost use Rattle.words.specs.Lanes.{lane_bytes};

@@ -3,6 +3,7 @@
 // number of a row or of a column is divided by 8 or shifted (paper 02, note 2). A word holds eight bytes of a column, the bits of 64 rows.
 // Eight such words change bits with each other, by shifts and masks, until rows stand where columns stood: first weights, then bytes.
 #![tactic(auto)]
+
 ghost use Rattle.std.specs.Prelude.{◌≡◌, [], ◌∷◌, ℕ, ◌+◌, ◌*◌, ◌≤◌, ◌<◌, length, set};
 ghost use Rattle.words.specs.Bytes.{concat};
 ghost use Rattle.sizes.specs.Sizes.{columns};

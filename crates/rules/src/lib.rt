@@ -1,6 +1,7 @@
 // The rules of a session, in numbers only: its record, how a step changes it, and which batch numbers, blocks and keys are allowed. The order
 // in which each step refuses is a definition here; the crate `orders` gives the answers.
 #![tactic(auto)]
+
 ghost use Rattle.std.specs.Prelude.{◌≡◌};
 ghost use Rattle.rules.specs.Orders.{new_record, with_batch, without_batch, closed, blocks_allowed, batch_follows, key_usable};
 

@@ -1,6 +1,7 @@
 // The sender's table, four trees at a time. Delta enters as a side for each base transfer, and a side as a mask: never a branch or an
 // address.
 #![tactic(auto)]
+
 ghost use Rattle.std.specs.Prelude.{◌≡◌, List, [], ℕ, ◌+◌, ◌-◌, ◌*◌, ◌/◌, ◌%◌, ◌≤◌, ◌<◌, length, get_or};
 ghost use Rattle.words.specs.Bytes.{part, concat};
 ghost use Rattle.words.specs.Lanes.{lane_bytes};

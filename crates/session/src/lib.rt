@@ -1,5 +1,6 @@
 // A session's steps by value: the record goes in and comes back.
 #![tactic(auto)]
+
 ghost use Rattle.std.specs.Prelude.{◌≡◌};
 ghost use Rattle.tree.specs.Tree.{stream_byte};
 ghost use Rattle.tree.specs.Streams.{byte_of};

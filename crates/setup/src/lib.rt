@@ -1,5 +1,6 @@
 // Both setups, for any inputs: the receiver's message of masked totals, and the sender's siblings.
 #![tactic(auto)]
+
 mod receiver;
 mod sender;
 

@@ -1,5 +1,6 @@
 // Four digests at once, side by side, so that the compiler works on four words with one instruction: word w of lane l stands at 4w + l.
 #![tactic(auto)]
+
 ghost use Rattle.std.specs.Prelude.{◌≡◌, ◌+◌, ◌<◌, length, get_or, take};
 ghost use Rattle.words.specs.Bytes.{concat};
 ghost use Rattle.words.specs.Lanes.{lane, put_lane, laned};

@@ -1,5 +1,6 @@
 // Widths, columns, trees, and the length of every byte range that a step is lent, by the names of the definitions.
 #![tactic(auto)]
+
 ghost use Rattle.std.specs.Prelude.{◌≡◌, [], ◌∷◌};
 ghost use Rattle.sizes.specs.Sizes.{width_allowed, columns, trees_of, delta_length, receiver_base_pads_length, sender_base_pads_length, setup_message_length, siblings_length, check_message_length, column_length, roots_length, table_length, correction_length, receiver_pads_length, sender_pads_length, head_length, short_head_length, key_length};
 

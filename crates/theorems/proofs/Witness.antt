@@ -6,7 +6,7 @@ use Prim.Native.Nat.{ℕ, ◌*◌, ◌^◌, ◌<◌, ◌≤◌}
 use native.Mathlib.Omega.{arith}
 use lib.ListN.{length, replicate, length-replicate}
 use Rattle.words.specs.Bytes.{Range, Bytes}
-use Rattle.sizes.specs.Sizes.{width_allowed, columns, trees_of, delta_length, roots_length, receiver_base_pads_length, setup_message_length, siblings_length}
+use Rattle.sizes.specs.Sizes.{width_allowed, trees_of, delta_length, roots_length, receiver_base_pads_length, setup_message_length, siblings_length}
 use Rattle.sizes.specs.Sizes.{column_length, table_length, correction_length, check_message_length, receiver_pads_length, sender_pads_length}
 use Rattle.sizes.proofs.Widths.{width_fits}
 use Rattle.tree.specs.Tree.{stream_byte}

@@ -1,5 +1,6 @@
 // What a walk of the trees makes and adds up. Four trees go side by side: word w of lane l stands at 4w + l.
 #![tactic(auto)]
+
 pub mod side;
 
 ghost use Rattle.std.specs.Prelude.{◌≡◌, ◌+◌, ◌*◌, ◌%◌, ◌<◌, ◌≤◌, length, slice_index};

@@ -6,7 +6,6 @@ use lib.Dec.{eqb}
 use lib.ListN.{length}
 use native.Mathlib.Omega.{arith}
 use borrow.Author.Rules.{rules}
-use borrow.Author.Tests.{not-true, not-false}
 use Rattle.words.specs.Bytes.{every}
 use Rattle.words.proofs.Lists.{every_more}
 use Rattle.sizes.specs.Sizes.{contents_length}

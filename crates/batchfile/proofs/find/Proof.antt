@@ -4,7 +4,6 @@ use mathlib.Core.Bool.{true}
 use native.Mathlib.Omega.{arith}
 use lib.ListN.{length}
 use borrow.Author.Rules.{rules}
-use borrow.Author.Tests.{not-true, not-false}
 use Rattle.answer.specs.Answer.{is_done}
 use Rattle.answer.proofs.Order.{new-when}
 use Rattle.rules.specs.Orders.{head_right}

@@ -1,5 +1,5 @@
 -- The first i trees are stored, and then four more.
-use Rattle.std.proofs.Common.{◌≡◌, ℕ, ◌+◌, ◌-◌, ◌*◌, ◌≤◌, List, ◌++◌, length, refl, ap, ◌∙◌, arith}
+use Rattle.std.proofs.Common.{◌≡◌, ℕ, ◌+◌, ◌-◌, ◌*◌, ◌≤◌, ◌++◌, refl, ap, ◌∙◌, arith}
 use native.Mathlib.Nat.{add-mul, mul-le-mul_right}
 use lib.ListN.{length-append}
 use borrow.Rule.Slice.PartMut.{mid_len}

@@ -1,5 +1,5 @@
 -- The nodes' own children are added at their level, and each side's totals at the levels below.
-use Rattle.std.proofs.Common.{◌≡◌, ℕ, ◌-◌, ◌<◌, ◌≤◌, length, refl, ap, ◌∙◌, arith}
+use Rattle.std.proofs.Common.{◌≡◌, ◌-◌, ◌≤◌, length, refl, ap, ◌∙◌, arith}
 use borrow.Rule.Slice.PartMut.{put_mid}
 use Rattle.words.proofs.Lists.{xor_each-none}
 use Rattle.words.proofs.Parts.{part-added, xor_part-length}

@@ -1,4 +1,3 @@
-use Rattle.std.proofs.Common.{◌<◌}
 use Rattle.tree.proofs.+totals.Given as goal
 
 abbrev pub decreases-totals : goal.decreases-totals

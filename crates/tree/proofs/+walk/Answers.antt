@@ -1,5 +1,5 @@
 -- Of what is added to the column of a level only the leaves on the right of that level stay.
-use Rattle.std.proofs.Common.{◌≡◌, ℕ, length, ap, ◌∙◌, arith}
+use Rattle.std.proofs.Common.{◌≡◌, length, ap, ◌∙◌, arith}
 use Rattle.chacha20_four.specs.FourStates.{blocks_of}
 use Rattle.nonces.specs.Nonce.{nonce_of}
 use Rattle.tree.specs.Streams.{word_of}

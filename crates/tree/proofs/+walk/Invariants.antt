@@ -1,4 +1,3 @@
-use Rattle.std.proofs.Common.{◌<◌}
 use Rattle.tree.proofs.+walk.Given as goal
 
 abbrev pub decreases-walk : goal.decreases-walk

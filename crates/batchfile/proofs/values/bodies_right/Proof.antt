@@ -4,7 +4,7 @@ use mathlib.Core.Bool.{Bool, ◌&&◌}
 use Prim.Native.Nat.{ℕ}
 use lib.Dec.{eqb}
 use borrow.Author.Rules.{rules}
-use borrow.Author.Tests.{eq-eqb, ne_eqb, not-true, not-false}
+use borrow.Author.Tests.{eq-eqb, ne_eqb}
 use Rattle.sizes.specs.Sizes.{correction_length, key_length, check_message_length}
 use Rattle.batchfile.proofs.values.bodies_right.Statement.{statement}
 use Rattle.batchfile.proofs.values.bodies_right.Tie as tie
