@@ -3,10 +3,12 @@
 // reference/. What a program reads and writes no contract can say, so these functions have none, or only what makes their callers safe;
 // that the lines are right is for the comparison to show.
 #![tactic(auto)]
+
 ghost use Rattle.std.specs.Prelude.{◌≡◌, ◌+◌, ◌≤◌, length};
 ghost use Rattle.sizes.specs.Sizes.{siblings_length};
 
-use libc::STDIN_FILENO;
+use std::io;
+use std::io::{BufWriter, Write};
 
 // Two sessions, one on each side.
 #[derive(Clone, Copy)]
@@ -55,14 +57,14 @@ fn outcome(step: session::Stepped) -> [u8; 17]
 }
 
 // A line of a step. Where the last batch number passes 32 bits, its upper half stands at the end.
-fn print_line(line: &[u8], step: session::Stepped) {
-    cases::print_digits(line);
+fn print_line(to: &mut impl Write, line: &[u8], step: session::Stepped) -> io::Result<()> {
+    cases::print_digits(to, line)?;
     let record = step.record;
     if 0xffff_ffff < record.last {
         let upper = (record.last / 0x1_0000_0000) as u32;
-        cases::print_digits(&words::bytes32(upper));
+        cases::print_digits(to, &words::bytes32(upper))?;
     }
-    cases::print(b"");
+    cases::print(to, b"")
 }
 
 // The first 8 bytes of a range's digest.
@@ -71,20 +73,27 @@ fn digest_head(s: &[u8]) -> u64 {
 }
 
 // The outcome of a step, and the heads of the digests of the four ranges that it was lent.
-fn print_step(step: session::Stepped, a: &[u8], b: &[u8], c: &[u8], d: &[u8]) {
+fn print_step(
+    to: &mut impl Write,
+    step: session::Stepped,
+    a: &[u8],
+    b: &[u8],
+    c: &[u8],
+    d: &[u8],
+) -> io::Result<()> {
     let mut line = [0u8; 49];
     words::copy_part(&mut line, 0, &outcome(step));
     words::store64(&mut line, 17, digest_head(a));
     words::store64(&mut line, 25, digest_head(b));
     words::store64(&mut line, 33, digest_head(c));
     words::store64(&mut line, 41, digest_head(d));
-    print_line(&line, step);
+    print_line(to, &line, step)
 }
 
 // A session's record, a batch number, blocks, a seed and the lengths of roots, choices, table and correction: the step.
-fn receiver_start(p: &[u8]) {
+fn receiver_start(to: &mut impl Write, p: &[u8]) -> io::Result<()> {
     if p.len() != 52 {
-        return;
+        return Ok(());
     }
     let seed = words::load32(p, 32);
     let roots_len = length_at(p, 36);
@@ -103,13 +112,13 @@ fn receiver_start(p: &[u8]) {
     let batch = words::load64(p, 20);
     let blocks = words::load32(p, 28);
     let step = session::receiver_start(record, roots, batch, blocks, choices, table, correction);
-    print_step(step, roots, choices, table, correction);
+    print_step(to, step, roots, choices, table, correction)
 }
 
 // A session's record, a batch number, blocks, a seed and the lengths of siblings, delta, correction and table: the step.
-fn sender_correct(p: &[u8]) {
+fn sender_correct(to: &mut impl Write, p: &[u8]) -> io::Result<()> {
     if p.len() != 52 {
-        return;
+        return Ok(());
     }
     let seed = words::load32(p, 32);
     let siblings_len = length_at(p, 36);
@@ -128,13 +137,13 @@ fn sender_correct(p: &[u8]) {
     let batch = words::load64(p, 20);
     let blocks = words::load32(p, 28);
     let step = session::sender_correct(record, siblings, delta, batch, blocks, correction, table);
-    print_step(step, siblings, delta, correction, table);
+    print_step(to, step, siblings, delta, correction, table)
 }
 
 // A session's record, a key, a seed and the lengths of choices, table, message and pads: the step.
-fn receiver_answer(p: &[u8]) {
+fn receiver_answer(to: &mut impl Write, p: &[u8]) -> io::Result<()> {
     if p.len() != 48 {
-        return;
+        return Ok(());
     }
     let seed = words::load32(p, 28);
     let choices_len = length_at(p, 32);
@@ -152,13 +161,13 @@ fn receiver_answer(p: &[u8]) {
     let record = record_at(p, 0);
     let key = words::load64(p, 20);
     let step = session::receiver_answer(record, key, choices, table, message, pads);
-    print_step(step, choices, table, message, pads);
+    print_step(to, step, choices, table, message, pads)
 }
 
 // A session's record, a key, a seed and the lengths of table, delta, message and pads: the step.
-fn sender_verify(p: &[u8]) {
+fn sender_verify(to: &mut impl Write, p: &[u8]) -> io::Result<()> {
     if p.len() != 48 {
-        return;
+        return Ok(());
     }
     let seed = words::load32(p, 28);
     let table_len = length_at(p, 32);
@@ -176,7 +185,7 @@ fn sender_verify(p: &[u8]) {
     let record = record_at(p, 0);
     let key = words::load64(p, 20);
     let step = session::sender_verify(record, key, table, delta, message, pads);
-    print_step(step, table, delta, message, pads);
+    print_step(to, step, table, delta, message, pads)
 }
 
 // Makes an alteration, 8 bytes (a place in 4, a range's number in 2 and what to add in 2), if it has this range's number.
@@ -200,12 +209,13 @@ fn damage(alterations: &[u8], range: u8, s: &mut [u8]) {
 
 // The receiver's start and answer in a whole batch. The record goes from one to the other.
 fn batch_receiver(
+    to: &mut impl Write,
     record: rules::Record,
     p: &[u8],
     roots: &[u8],
     correction: &mut [u8],
     message: &mut [u8],
-) -> rules::Record
+) -> io::Result<rules::Record>
     requires { 64 ≤ length p.now }
 {
     let key = words::load64(p, 12);
@@ -222,11 +232,11 @@ fn batch_receiver(
     let batch = words::load64(p, 0);
     let blocks = words::load32(p, 8);
     let start = session::receiver_start(record, roots, batch, blocks, choices, table, correction);
-    print_step(start, roots, choices, table, correction);
+    print_step(to, start, roots, choices, table, correction)?;
     let open = start.record;
     let end = session::receiver_answer(open, key, choices, table, message, pads);
-    print_step(end, choices, table, message, pads);
-    end.record
+    print_step(to, end, choices, table, message, pads)?;
+    Ok(end.record)
 }
 
 // The siblings that an honest setup leaves, where every base pad is 0. The `ensures` gives their length.
@@ -244,12 +254,13 @@ fn siblings_of(width: u32, roots: &[u8], delta: &[u8]) -> [u8; sizes::SIBLINGS_L
 
 // The sender's correction in a whole batch, after the setup, on a correction that may be damaged.
 fn batch_correct(
+    to: &mut impl Write,
     record: rules::Record,
     p: &[u8],
     roots: &[u8],
     correction: &mut [u8],
     table: &mut [u8],
-) -> rules::Record
+) -> io::Result<rules::Record>
     requires { 64 ≤ length p.now }
 {
     let batch = words::load64(p, 0);
@@ -258,8 +269,8 @@ fn batch_correct(
     let delta = &p[24..40];
     let siblings = siblings_of(record.width, roots, delta);
     let step = session::sender_correct(record, &siblings, delta, batch, blocks, correction, table);
-    print_step(step, &siblings, delta, correction, table);
-    step.record
+    print_step(to, step, &siblings, delta, correction, table)?;
+    Ok(step.record)
 }
 
 // Delta and the key at the verify. The `ensures` gives delta's length.
@@ -283,7 +294,13 @@ fn verify_key(p: &[u8]) -> u64
 }
 
 // The sender's verify in a whole batch.
-fn batch_verify(record: rules::Record, p: &[u8], table: &[u8], message: &[u8]) -> rules::Record
+fn batch_verify(
+    to: &mut impl Write,
+    record: rules::Record,
+    p: &[u8],
+    table: &[u8],
+    message: &[u8],
+) -> io::Result<rules::Record>
     requires { 64 ≤ length p.now }
 {
     let delta = verify_delta(p);
@@ -292,36 +309,37 @@ fn batch_verify(record: rules::Record, p: &[u8], table: &[u8], message: &[u8]) -
     let mut all_pads = cases::derived(words::load32(p, 20), 7);
     let pads = &mut all_pads[0..pads_len];
     let step = session::sender_verify(record, key, table, &delta, message, pads);
-    print_step(step, table, &delta, message, pads);
-    step.record
+    print_step(to, step, table, &delta, message, pads)?;
+    Ok(step.record)
 }
 
 // The sender's correction and verify in a whole batch. The record goes from one to the other; the table and the message may be damaged
 // between them.
 fn batch_sender(
+    to: &mut impl Write,
     record: rules::Record,
     p: &[u8],
     roots: &[u8],
     correction: &mut [u8],
     message: &mut [u8],
-) -> rules::Record
+) -> io::Result<rules::Record>
     requires { 64 ≤ length p.now }
 {
     let table_len = length_at(p, 48);
     let mut all_table = cases::derived(words::load32(p, 20), 4);
     let table = &mut all_table[0..table_len];
-    let open = batch_correct(record, p, roots, correction, table);
+    let open = batch_correct(to, record, p, roots, correction, table)?;
     damage(&p[64..], 1, message);
     damage(&p[64..], 2, table);
-    batch_verify(open, p, table, message)
+    batch_verify(to, open, p, table, message)
 }
 
 // A whole batch of the two sessions: a batch number, blocks, a key, a seed, delta, the lengths of roots, choices, table, correction and
 // both sides' pads, and the alterations: of the correction (0) and the message (1) as the sender gets them, and of W (2), delta (3) and the
 // key (4) at the verify. The four steps, a line each.
-fn batch(both: Sessions, p: &[u8]) -> Sessions {
+fn batch(to: &mut impl Write, both: Sessions, p: &[u8]) -> io::Result<Sessions> {
     if p.len() < 64 {
-        return both;
+        return Ok(both);
     }
     let seed = words::load32(p, 20);
     let roots_len = length_at(p, 40);
@@ -332,9 +350,9 @@ fn batch(both: Sessions, p: &[u8]) -> Sessions {
     let roots = &all_roots[0..roots_len];
     let correction = &mut all_correction[0..correction_len];
     let message = &mut all_message[0..sizes::CHECK_MESSAGE_LENGTH];
-    let receiver = batch_receiver(both.receiver, p, roots, correction, message);
-    let sender = batch_sender(both.sender, p, roots, correction, message);
-    Sessions { receiver, sender }
+    let receiver = batch_receiver(to, both.receiver, p, roots, correction, message)?;
+    let sender = batch_sender(to, both.sender, p, roots, correction, message)?;
+    Ok(Sessions { receiver, sender })
 }
 
 // The records that the two sessions are to have.
@@ -348,43 +366,43 @@ fn set(both: Sessions, p: &[u8]) -> Sessions {
 }
 
 // A width: opens both sessions, whatever their records hold; a line each.
-fn open(both: Sessions, p: &[u8]) -> Sessions {
+fn open(to: &mut impl Write, both: Sessions, p: &[u8]) -> io::Result<Sessions> {
     if p.len() != 4 {
-        return both;
+        return Ok(both);
     }
     let width = words::load32(p, 0);
     let first = session::open(both.receiver, width);
     let second = session::open(both.sender, width);
-    print_line(&outcome(first), first);
-    print_line(&outcome(second), second);
+    print_line(to, &outcome(first), first)?;
+    print_line(to, &outcome(second), second)?;
     let receiver = first.record;
     let sender = second.record;
-    Sessions { receiver, sender }
+    Ok(Sessions { receiver, sender })
 }
 
 // A single step, on a record of its own.
-fn single(kind: u8, p: &[u8]) {
+fn single(to: &mut impl Write, kind: u8, p: &[u8]) -> io::Result<()> {
     match kind {
-        4 => receiver_start(p),
-        5 => sender_correct(p),
-        6 => receiver_answer(p),
-        7 => sender_verify(p),
-        _ => {}
+        4 => receiver_start(to, p),
+        5 => sender_correct(to, p),
+        6 => receiver_answer(to, p),
+        7 => sender_verify(to, p),
+        _ => Ok(()),
     }
 }
 
-fn case(both: Sessions, kind: u8, p: &[u8]) -> Sessions {
+fn case(to: &mut impl Write, both: Sessions, kind: u8, p: &[u8]) -> io::Result<Sessions> {
     if kind == 1 {
-        return set(both, p);
+        return Ok(set(both, p));
     }
     if kind == 2 {
-        return open(both, p);
+        return open(to, both, p);
     }
     if kind == 3 {
-        return batch(both, p);
+        return batch(to, both, p);
     }
-    single(kind, p);
-    both
+    single(to, kind, p)?;
+    Ok(both)
 }
 
 // Two sessions whose records hold nothing.
@@ -397,24 +415,27 @@ fn nothing() -> Sessions {
 }
 
 // Records one after the other: a kind, the length of what follows in 4 bytes, and that.
-fn run(s: &[u8]) {
+fn run(to: &mut impl Write, s: &[u8]) -> io::Result<()> {
     let mut both = nothing();
     let mut at = 0;
     while 5 <= s.len() - at {
         let body = at + 5;
         let n = words::load32(s, at + 1) as usize;
         if s.len() - body < n {
-            return;
+            return Ok(());
         }
         let end = body + n;
-        let after = case(both, s[at], &s[body..end]);
+        let after = case(to, both, s[at], &s[body..end])?;
         both = after;
         at = end;
     }
+    Ok(())
 }
 
-fn main() {
+fn main(rt: HostRuntime) -> io::Result<()> {
     let mut buffer = cases::million(0);
-    let n = io::read_full(STDIN_FILENO, &mut buffer);
-    run(&buffer[..n]);
+    let n = cases::read_full(&mut rt.stdin(), &mut buffer)?;
+    let mut to = BufWriter::new(rt.alloc(), rt.stdout())?;
+    run(&mut to, &buffer[..n])?;
+    to.flush()
 }

@@ -1,24 +1,40 @@
-// What the programs share: the lines that they print, and ranges that they derive from a seed. What a program writes no contract can
-// say; where a function has a contract, it is what its callers need to be safe.
+// What the programs share: how they read their input, the lines that they print, and ranges that they derive from a seed. What a program
+// writes no contract can say; where a function has a contract, it is what its callers need to be safe.
 #![tactic(auto)]
-ghost use Rattle.std.specs.Prelude.{◌≡◌, length, get_or, set};
+
+ghost use Rattle.std.specs.Prelude.{◌≡◌, ◌≤◌, length, get_or, set, IfOk};
 ghost use Rattle.words.specs.Xor.{◌⊕◌};
 
-use libc::STDOUT_FILENO;
+use std::io;
+use std::io::{Read, Write};
+
+// Reads until the range is full or the input ends, and gives how many bytes it read. The `ensures` says that the range has so many.
+pub fn read_full(input: &mut impl Read, range: &mut [u8]) -> io::Result<usize>
+    ensures { IfOk result (λ n. n ≤ length range.new) }
+{
+    let mut done = 0;
+    while done < range.len() {
+        let n = input.read(&mut range[done..])?;
+        if n == 0 {
+            break;
+        }
+        done += n;
+    }
+    Ok(done)
+}
 
 // Prints some bytes in hexadecimal digits.
-pub fn print_digits(s: &[u8]) {
-    let mut i = 0;
-    while i < s.len() {
-        io::print_hex(STDOUT_FILENO, s[i] as u64, 2);
-        i += 1;
+pub fn print_digits(to: &mut impl Write, s: &[u8]) -> io::Result<()> {
+    for byte in s {
+        write!(to, "{byte:02x}")?;
     }
+    Ok(())
 }
 
 // And a newline after them.
-pub fn print(s: &[u8]) {
-    print_digits(s);
-    io::write_all(STDOUT_FILENO, b"\n");
+pub fn print(to: &mut impl Write, s: &[u8]) -> io::Result<()> {
+    print_digits(to, s)?;
+    to.write_all(b"\n")
 }
 
 // A million of a byte. The `ensures` gives only the length, which lending the array as a slice needs.

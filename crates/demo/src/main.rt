@@ -3,11 +3,13 @@
 // the fifth finds the sender's session closed. Only a demonstration has both sides' pads, and it compares every one. What a program writes
 // no contract can say, so these functions have none, or only what makes their callers safe.
 #![tactic(auto)]
-ghost use Rattle.std.specs.Prelude.{◌≡◌, ◌*◌, ◌≤◌, length};
+
+ghost use Rattle.std.specs.Prelude.{◌≡◌, ◌*◌, ◌≤◌, length, IfOk};
 ghost use Rattle.sizes.specs.Sizes.{delta_length, receiver_base_pads_length, sender_base_pads_length, siblings_length, receiver_pads_length, sender_pads_length};
 
 use answer::Answer;
-use libc::STDOUT_FILENO;
+use std::io;
+use std::io::{BufWriter, Write};
 
 // Two sessions, one on each side.
 #[derive(Clone, Copy)]
@@ -33,21 +35,21 @@ struct Opened {
 }
 
 // Prints a text.
-fn say(text: &[u8]) {
-    io::write_all(STDOUT_FILENO, text);
+fn say(to: &mut impl Write, text: &[u8]) -> io::Result<()> {
+    to.write_all(text)
 }
 
 // Prints a text and a number.
-fn say_number(text: &[u8], n: u64) {
-    say(text);
-    io::print_decimal(STDOUT_FILENO, n);
+fn say_number(to: &mut impl Write, text: &[u8], n: u64) -> io::Result<()> {
+    say(to, text)?;
+    write!(to, "{n}")
 }
 
 // Prints a text and the first 8 bytes of the digest of a range.
-fn say_digest(text: &[u8], s: &[u8]) {
-    say(text);
+fn say_digest(to: &mut impl Write, text: &[u8], s: &[u8]) -> io::Result<()> {
+    say(to, text)?;
     let digest = sha256::one::digest(s);
-    cases::print_digits(&digest[0..8]);
+    cases::print_digits(to, &digest[0..8])
 }
 
 // The transfers of a batch, which count where the step that ends it was done.
@@ -60,18 +62,23 @@ fn transfers(end: Answer, blocks: u32) -> u64 {
 }
 
 // One side's account of a batch, from the step that opened it and the one that ended it.
-fn say_side(name: &[u8], start: session::Stepped, end: session::Stepped) {
+fn say_side(
+    to: &mut impl Write,
+    name: &[u8],
+    start: session::Stepped,
+    end: session::Stepped,
+) -> io::Result<()> {
     let open = start.record;
     let after = end.record;
     let first = start.answer;
     let second = end.answer;
-    say(name);
-    say_number(b": last ", after.last);
-    say_number(b", blocks ", open.blocks as u64);
-    say_number(b", transfers ", transfers(second, open.blocks));
-    say_number(b", answers ", answer::number_of(first) as u64);
-    say_number(b" ", answer::number_of(second) as u64);
-    say_number(b", stage ", after.stage as u64);
+    say(to, name)?;
+    say_number(to, b": last ", after.last)?;
+    say_number(to, b", blocks ", open.blocks as u64)?;
+    say_number(to, b", transfers ", transfers(second, open.blocks))?;
+    say_number(to, b", answers ", answer::number_of(first) as u64)?;
+    say_number(to, b" ", answer::number_of(second) as u64)?;
+    say_number(to, b", stage ", after.stage as u64)
 }
 
 // Of a pair of pads the second where the mask is all ones, the first where it is 0.
@@ -146,22 +153,29 @@ fn written(s: &[u8]) -> bool {
 }
 
 // What a comparison of both sides' pads finds.
-fn say_pads(bytes: usize, choices: &[u8], mine: &[u8], theirs: &[u8])
+fn say_pads(
+    to: &mut impl Write,
+    bytes: usize,
+    choices: &[u8],
+    mine: &[u8],
+    theirs: &[u8],
+) -> io::Result<()>
     requires { (bytes ≤ 120) × (bytes ≤ length choices.now) × (256 * bytes ≡ length mine.now) × (512 * bytes ≡ length theirs.now) }
 {
     say_number(
+        to,
         b"\n  pads that agree: ",
         agree(bytes, choices, mine, theirs),
-    );
-    say_number(b" of ", 8 * (bytes as u64));
+    )?;
+    say_number(to, b" of ", 8 * (bytes as u64))?;
     if written(theirs) {
-        say(b"; the sender's were written");
+        say(to, b"; the sender's were written")?;
     } else {
-        say(b"; none of the sender's was written");
+        say(to, b"; none of the sender's was written")?;
     }
-    say_digest(b"; digests ", mine);
-    say_digest(b" ", theirs);
-    say(b"\n");
+    say_digest(to, b"; digests ", mine)?;
+    say_digest(to, b" ", theirs)?;
+    say(to, b"\n")
 }
 
 // The pads that the sender has of one tree's base transfers: at each level the one numbered 1 minus the path bit. The path's
@@ -192,9 +206,13 @@ fn sender_base_pads(delta: &[u8], pairs: &[u8], out: &mut [u8])
 }
 
 // Both setups: the sender's siblings. The `ensures` gives their length.
-fn siblings_of(roots: &[u8], delta: &[u8]) -> [u8; sizes::SIBLINGS_LENGTH]
+fn siblings_of(
+    to: &mut impl Write,
+    roots: &[u8],
+    delta: &[u8],
+) -> io::Result<[u8; sizes::SIBLINGS_LENGTH]>
     requires { delta_length ≡ length delta.now }
-    ensures { siblings_length ≡ length result }
+    ensures { IfOk result (λ siblings. siblings_length ≡ length siblings) }
 {
     let all_pairs = cases::derived(1, 2);
     let pairs = &all_pairs[0..sizes::RECEIVER_BASE_PADS_LENGTH];
@@ -204,10 +222,14 @@ fn siblings_of(roots: &[u8], delta: &[u8]) -> [u8; sizes::SIBLINGS_LENGTH]
     sender_base_pads(delta, pairs, &mut pads);
     let mut siblings = [0u8; sizes::SIBLINGS_LENGTH];
     let second = setup::sender_setup(8, delta, &pads, &message, &mut siblings);
-    say_number(b"setup, width 8: answers ", answer::number_of(first) as u64);
-    say_number(b" ", answer::number_of(second) as u64);
-    say(b"\n");
-    siblings
+    say_number(
+        to,
+        b"setup, width 8: answers ",
+        answer::number_of(first) as u64,
+    )?;
+    say_number(to, b" ", answer::number_of(second) as u64)?;
+    say(to, b"\n")?;
+    Ok(siblings)
 }
 
 // The receiver's start and the sender's correction. The `requires` bounds the correction's length.
@@ -240,6 +262,7 @@ fn open_batch(
 
 // The receiver's answer and the sender's verify, and both sides' accounts of the batch, side by side.
 fn end_batch(
+    to: &mut impl Write,
     opened: Opened,
     key: u64,
     delta: &[u8],
@@ -248,21 +271,22 @@ fn end_batch(
     w: &[u8],
     mine: &mut [u8],
     theirs: &mut [u8],
-) -> Sessions {
+) -> io::Result<Sessions> {
     let start = opened.start;
     let correct = opened.correct;
     let mut message = [0u8; sizes::CHECK_MESSAGE_LENGTH];
     let answer = session::receiver_answer(start.record, key, choices, v, &mut message, mine);
     let verify = session::sender_verify(correct.record, key, w, delta, &message, theirs);
-    say_side(b"  receiver", start, answer);
-    say_side(b"   sender", correct, verify);
+    say_side(to, b"  receiver", start, answer)?;
+    say_side(to, b"   sender", correct, verify)?;
     let receiver = answer.record;
     let sender = verify.record;
-    Sessions { receiver, sender }
+    Ok(Sessions { receiver, sender })
 }
 
 // The four steps of a batch, in their order. The `requires` bounds the tables' lengths.
 fn steps(
+    to: &mut impl Write,
     both: Sessions,
     b: Batch,
     roots: &[u8],
@@ -271,7 +295,7 @@ fn steps(
     choices: &mut [u8],
     mine: &mut [u8],
     theirs: &mut [u8],
-) -> Sessions
+) -> io::Result<Sessions>
     requires { b.blocks ≤ 15 }
 {
     let size = sizes::table_length(b.blocks);
@@ -280,11 +304,12 @@ fn steps(
     let v = &mut all_v[0..size];
     let w = &mut all_w[0..size];
     let opened = open_batch(both, b, roots, delta, siblings, choices, v, w);
-    end_batch(opened, b.key, delta, choices, v, w, mine, theirs)
+    end_batch(to, opened, b.key, delta, choices, v, w, mine, theirs)
 }
 
 // The four steps on ranges of the right lengths, and what both sides then have.
 fn steps_and_pads(
+    to: &mut impl Write,
     both: Sessions,
     b: Batch,
     roots: &[u8],
@@ -293,28 +318,35 @@ fn steps_and_pads(
     choices: &mut [u8],
     mine: &mut [u8],
     theirs: &mut [u8],
-) -> Sessions
+) -> io::Result<Sessions>
     requires { (b.blocks ≤ 15) × (8 * b.blocks ≤ length choices.old) × (receiver_pads_length b.blocks ≡ length mine.old) × (sender_pads_length b.blocks ≡ length theirs.old) }
 {
     let bytes = 8 * (b.blocks as usize);
-    let after = steps(both, b, roots, delta, siblings, choices, mine, theirs);
-    say_pads(bytes, choices, mine, theirs);
-    after
+    let after = steps(to, both, b, roots, delta, siblings, choices, mine, theirs)?;
+    say_pads(to, bytes, choices, mine, theirs)?;
+    Ok(after)
 }
 
 // A whole batch.
-fn play(both: Sessions, b: Batch, roots: &[u8], delta: &[u8], siblings: &[u8]) -> Sessions
+fn play(
+    to: &mut impl Write,
+    both: Sessions,
+    b: Batch,
+    roots: &[u8],
+    delta: &[u8],
+    siblings: &[u8],
+) -> io::Result<Sessions>
     requires { b.blocks ≤ 15 }
 {
-    say_number(b"batch ", b.number);
-    say(b"\n");
+    say_number(to, b"batch ", b.number)?;
+    say(to, b"\n")?;
     let mut all_choices = [0u8; 128];
     let mut all_mine = [0u8; 30720];
     let mut all_theirs = [0u8; 61440];
     let choices = &mut all_choices[0..sizes::column_length(b.blocks)];
     let mine = &mut all_mine[0..sizes::receiver_pads_length(b.blocks)];
     let theirs = &mut all_theirs[0..sizes::sender_pads_length(b.blocks)];
-    steps_and_pads(both, b, roots, delta, siblings, choices, mine, theirs)
+    steps_and_pads(to, both, b, roots, delta, siblings, choices, mine, theirs)
 }
 
 // A batch whose key a seed and its number give.
@@ -341,22 +373,31 @@ fn new_sessions() -> Sessions {
 }
 
 // Three honest batches; one whose correction has a bit flipped; and one that finds the sender's session closed.
-fn play_all(roots: &[u8], delta: &[u8], siblings: &[u8]) {
-    let first = play(new_sessions(), planned(1, 1, 0), roots, delta, siblings);
-    let second = play(first, planned(2, 15, 0), roots, delta, siblings);
-    let third = play(second, planned(3, 4, 0), roots, delta, siblings);
-    say(b"the receiver cheats: one bit of its correction is flipped\n");
-    let fourth = play(third, planned(4, 2, 1), roots, delta, siblings);
-    say(b"a further batch\n");
-    play(fourth, planned(5, 1, 0), roots, delta, siblings);
+fn play_all(to: &mut impl Write, roots: &[u8], delta: &[u8], siblings: &[u8]) -> io::Result<()> {
+    let first = play(to, new_sessions(), planned(1, 1, 0), roots, delta, siblings)?;
+    let second = play(to, first, planned(2, 15, 0), roots, delta, siblings)?;
+    let third = play(to, second, planned(3, 4, 0), roots, delta, siblings)?;
+    say(
+        to,
+        b"the receiver cheats: one bit of its correction is flipped\n",
+    )?;
+    let fourth = play(to, third, planned(4, 2, 1), roots, delta, siblings)?;
+    say(to, b"a further batch\n")?;
+    play(to, fourth, planned(5, 1, 0), roots, delta, siblings)?;
+    Ok(())
 }
 
-fn main() {
-    say(b"answers: 0 done, 2 wrong stage, 6 check failed; stage: 0 ready, 2 closed\n");
+fn main(rt: HostRuntime) -> io::Result<()> {
+    let mut to = BufWriter::new(rt.alloc(), rt.stdout())?;
+    say(
+        &mut to,
+        b"answers: 0 done, 2 wrong stage, 6 check failed; stage: 0 ready, 2 closed\n",
+    )?;
     let all_roots = cases::derived(1, 0);
     let all_delta = cases::derived(1, 1);
     let roots = &all_roots[0..sizes::roots_length(8)];
     let delta = &all_delta[0..sizes::DELTA_LENGTH];
-    let siblings = siblings_of(roots, delta);
-    play_all(roots, delta, &siblings);
+    let siblings = siblings_of(&mut to, roots, delta)?;
+    play_all(&mut to, roots, delta, &siblings)?;
+    to.flush()
 }

@@ -3,9 +3,11 @@
 // the lines to be printed are written by reference/. What a program reads and writes no contract can say, so these functions have none, or
 // only what makes their callers safe; that the lines are right is for the comparison to show.
 #![tactic(auto)]
+
 ghost use Rattle.std.specs.Prelude.{◌≤◌, length};
 
-use libc::STDIN_FILENO;
+use std::io;
+use std::io::{BufWriter, Write};
 
 // Lays a part over a file, if it has room there.
 fn lay(file: &mut [u8], place: usize, part: &[u8]) {
@@ -34,17 +36,17 @@ fn lay_all(file: &mut [u8], parts: &[u8]) {
 }
 
 // The first 8 bytes of the digest of the body of a kind, and its length.
-fn print_body(file: &[u8], kind: u32) {
+fn print_body(to: &mut impl Write, file: &[u8], kind: u32) -> io::Result<()> {
     let body = filereader::body_of(file, kind);
     let mut line = [0u8; 16];
     words::copy_part(&mut line, 0, &sha256::one::digest(body)[0..8]);
     words::store64(&mut line, 8, body.len() as u64);
-    cases::print_digits(&line);
+    cases::print_digits(to, &line)
 }
 
 // What reading finds: the answer's number, width and blocks in 4 bytes each, and the batch number, the five places and the file's length
 // in 8 each.
-fn print_found(file: &[u8]) {
+fn print_found(to: &mut impl Write, file: &[u8]) -> io::Result<()> {
     let found = batchfile::find(file);
     let result = found.answer;
     let head = found.head;
@@ -60,35 +62,36 @@ fn print_found(file: &[u8]) {
     words::store64(&mut line, 41, places.key as u64);
     words::store64(&mut line, 49, places.check as u64);
     words::store64(&mut line, 57, file.len() as u64);
-    cases::print_digits(&line);
+    cases::print_digits(to, &line)
 }
 
 // A file's length, a seed, and the parts that are laid over what the seed gives: what reading finds, and the bodies of the kinds 0 to 6,
 // of which two don't exist.
-fn read(p: &[u8]) {
+fn read(to: &mut impl Write, p: &[u8]) -> io::Result<()> {
     if p.len() < 8 {
-        return;
+        return Ok(());
     }
     let n = words::load32(p, 0) as usize;
     if 61472 < n {
-        return;
+        return Ok(());
     }
     let mut all = cases::derived(words::load32(p, 4), 0);
     let file = &mut all[0..n];
     lay_all(file, &p[8..]);
-    print_found(file);
-    print_body(file, 0);
-    print_body(file, 1);
-    print_body(file, 2);
-    print_body(file, 3);
-    print_body(file, 4);
-    print_body(file, 5);
-    print_body(file, 6);
-    cases::print(b"");
+    print_found(to, file)?;
+    print_body(to, file, 0)?;
+    print_body(to, file, 1)?;
+    print_body(to, file, 2)?;
+    print_body(to, file, 3)?;
+    print_body(to, file, 4)?;
+    print_body(to, file, 5)?;
+    print_body(to, file, 6)?;
+    cases::print(to, b"")
 }
 
 // Writes a batch to a file: the answer's number, and the digest of the file's range.
 fn print_written(
+    to: &mut impl Write,
     width: u32,
     blocks: u32,
     batch: u64,
@@ -97,16 +100,17 @@ fn print_written(
     key: &[u8],
     check: &[u8],
     file: &mut [u8],
-) {
+) -> io::Result<()> {
     let result = filewriter::write(width, blocks, batch, setup, correction, key, check, file);
     let mut line = [0u8; 33];
     line[0] = (answer::number_of(result) % 256) as u8;
     words::copy_part(&mut line, 1, &sha256::one::digest(file));
-    cases::print(&line);
+    cases::print(to, &line)
 }
 
 // Bodies that stand one after the other, by the places where the second and each that follows begin, and the last ends.
 fn write_parts(
+    to: &mut impl Write,
     p: &[u8],
     bodies: &[u8],
     correction: usize,
@@ -114,13 +118,14 @@ fn write_parts(
     check: usize,
     end: usize,
     file: &mut [u8],
-)
+) -> io::Result<()>
     requires { (40 ≤ length p.now) × (correction ≤ key) × (key ≤ check) × (check ≤ end) × (end ≤ length bodies.now) }
 {
     let width = words::load32(p, 0);
     let blocks = words::load32(p, 4);
     let batch = words::load64(p, 8);
     print_written(
+        to,
         width,
         blocks,
         batch,
@@ -129,14 +134,14 @@ fn write_parts(
         &bodies[key..check],
         &bodies[check..end],
         file,
-    );
+    )
 }
 
 // Width, blocks and batch number, the lengths of setup, correction, key, check and file, and a seed. Its first range gives the bodies, one
 // after the other, its second the file.
-fn write(p: &[u8]) {
+fn write(to: &mut impl Write, p: &[u8]) -> io::Result<()> {
     if p.len() < 40 {
-        return;
+        return Ok(());
     }
     let correction = words::load32(p, 16) as usize;
     let key = correction + words::load32(p, 20) as usize;
@@ -144,18 +149,18 @@ fn write(p: &[u8]) {
     let end = check + words::load32(p, 28) as usize;
     let n = words::load32(p, 32) as usize;
     if 61472 < end {
-        return;
+        return Ok(());
     }
     if 61472 < n {
-        return;
+        return Ok(());
     }
     let bodies = cases::derived(words::load32(p, 36), 0);
     let mut out = cases::derived(words::load32(p, 36), 1);
-    write_parts(p, &bodies, correction, key, check, end, &mut out[0..n]);
+    write_parts(to, p, &bodies, correction, key, check, end, &mut out[0..n])
 }
 
 // Writes what reading a file finds.
-fn print_again(file: &[u8], out: &mut [u8]) {
+fn print_again(to: &mut impl Write, file: &[u8], out: &mut [u8]) -> io::Result<()> {
     let found = batchfile::find(file);
     let head = found.head;
     let setup = filereader::body_of(file, 1);
@@ -163,6 +168,7 @@ fn print_again(file: &[u8], out: &mut [u8]) {
     let key = filereader::body_of(file, 4);
     let check = filereader::body_of(file, 5);
     print_written(
+        to,
         head.width,
         head.blocks,
         head.batch,
@@ -171,55 +177,58 @@ fn print_again(file: &[u8], out: &mut [u8]) {
         key,
         check,
         out,
-    );
+    )
 }
 
 // The length of a range, and a file that is sent as to be read: it is read, and what is found is written to the seed's second range.
-fn again(p: &[u8]) {
+fn again(to: &mut impl Write, p: &[u8]) -> io::Result<()> {
     if p.len() < 12 {
-        return;
+        return Ok(());
     }
     let n = words::load32(p, 0) as usize;
     let len = words::load32(p, 4) as usize;
     if 61472 < n {
-        return;
+        return Ok(());
     }
     if 61472 < len {
-        return;
+        return Ok(());
     }
     let mut all = cases::derived(words::load32(p, 8), 0);
     let mut out = cases::derived(words::load32(p, 8), 1);
     let file = &mut all[0..len];
     lay_all(file, &p[12..]);
-    print_again(file, &mut out[0..n]);
+    print_again(to, file, &mut out[0..n])
 }
 
-fn case(kind: u8, p: &[u8]) {
+fn case(to: &mut impl Write, kind: u8, p: &[u8]) -> io::Result<()> {
     match kind {
-        1 => read(p),
-        2 => write(p),
-        3 => again(p),
-        _ => {}
+        1 => read(to, p),
+        2 => write(to, p),
+        3 => again(to, p),
+        _ => Ok(()),
     }
 }
 
 // Records one after the other: a kind, the length of what follows in 4 bytes, and that.
-fn run(s: &[u8]) {
+fn run(to: &mut impl Write, s: &[u8]) -> io::Result<()> {
     let mut at = 0;
     while 5 <= s.len() - at {
         let body = at + 5;
         let n = words::load32(s, at + 1) as usize;
         if s.len() - body < n {
-            return;
+            return Ok(());
         }
         let end = body + n;
-        case(s[at], &s[body..end]);
+        case(to, s[at], &s[body..end])?;
         at = end;
     }
+    Ok(())
 }
 
-fn main() {
+fn main(rt: HostRuntime) -> io::Result<()> {
     let mut buffer = cases::million(0);
-    let n = io::read_full(STDIN_FILENO, &mut buffer);
-    run(&buffer[..n]);
+    let n = cases::read_full(&mut rt.stdin(), &mut buffer)?;
+    let mut to = BufWriter::new(rt.alloc(), rt.stdout())?;
+    run(&mut to, &buffer[..n])?;
+    to.flush()
 }

@@ -190,7 +190,7 @@ module _ (h : HonestBatch) where
   setups : (h.a₁ ≡ Done) × (h.a₂ ≡ Done)
   setups =
       both-done k h.roots h.base_pads h.setup_message h.setup_message' h.delta h.siblings h.siblings' h.a₁ h.a₂
-      h.receiver-setup h.sender-setup h.width-allowed h.roots-length h.base_pads-length h.setup-message-length
+      h.receiver-setup h.sender-setup h.width-allowed h.roots-length h.base-pads-length h.setup-message-length
       h.delta-length h.siblings-length
 
   setup-message : h.setup_message' ≡ message_of n k h.roots h.base_pads

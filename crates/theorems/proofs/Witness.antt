@@ -162,7 +162,7 @@ module _ (s : Sent) (delta base_pads : Range) (r : Record) (allowed : Allowed s 
   setups : (first.answer ≡ Done) × (second.answer ≡ Done)
   setups =
       both-done k s.roots base_pads (room setup_message_length) first.left delta (room siblings_length) second.left first.answer second.answer
-      first.promised second.promised allowed.width-allowed allowed.roots-length allowed.base_pads-length (room-length setup_message_length)
+      first.promised second.promised allowed.width-allowed allowed.roots-length allowed.base-pads-length (room-length setup_message_length)
       allowed.delta-length (room-length siblings_length)
 
   abbrev third : Gives (Record × Range)

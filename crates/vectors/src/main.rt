@@ -2,44 +2,49 @@
 // be printed are written by reference/. What a program reads and writes no contract can say, so these functions have none; that the lines
 // are right is for the comparison to show.
 #![tactic(auto)]
+
 ghost use Rattle.std.specs.Prelude.{◌+◌, ◌≤◌, length};
 
-use libc::{STDIN_FILENO, STDOUT_FILENO};
+use std::io;
+use std::io::{BufWriter, Write};
 
 // A key, a counter and a nonce: the block.
-fn block(p: &[u8]) {
+fn block(to: &mut impl Write, p: &[u8]) -> io::Result<()> {
     if p.len() != 48 {
-        return;
+        return Ok(());
     }
     let mut key = [0u8; 32];
     words::copy_part(&mut key, 0, &p[0..32]);
     let mut nonce = [0u8; 12];
     words::copy_part(&mut nonce, 0, &p[36..48]);
-    cases::print(&chacha20::one::block(&key, words::load32(p, 32), &nonce));
+    cases::print(
+        to,
+        &chacha20::one::block(&key, words::load32(p, 32), &nonce),
+    )
 }
 
 // A message: its digest.
-fn digest(p: &[u8]) {
-    cases::print(&sha256::one::digest(p));
+fn digest(to: &mut impl Write, p: &[u8]) -> io::Result<()> {
+    cases::print(to, &sha256::one::digest(p))
 }
 
 // A count and a byte: the digest of so many of it.
-fn repeated(p: &[u8]) {
+fn repeated(to: &mut impl Write, p: &[u8]) -> io::Result<()> {
     if p.len() != 5 {
-        return;
+        return Ok(());
     }
     let n = words::load32(p, 0) as usize;
     if 1000000 < n {
-        return;
+        return Ok(());
     }
     let m = cases::million(p[4]);
-    cases::print(&sha256::one::digest(&m[..n]));
+    cases::print(to, &sha256::one::digest(&m[..n]))
 }
 
 // Four keys in lanes, a counter and a nonce: the four blocks in lanes.
-fn four_blocks(p: &[u8]) {
+fn four_blocks(to: &mut impl Write, p: &[u8]) -> io::Result<()> {
     if p.len() != 144 {
-        return;
+        return Ok(());
     }
     let mut keys = [0u32; 32];
     words::load_words(&mut keys, &p[0..128]);
@@ -48,27 +53,27 @@ fn four_blocks(p: &[u8]) {
     let t = chacha20_four::block(&keys, words::load32(p, 128), &nonce);
     let mut out = [0u8; 256];
     words::store_words(&mut out, &t);
-    cases::print(&out);
+    cases::print(to, &out)
 }
 
 // Four messages of 32 bytes: their digests.
-fn four_digests(p: &[u8]) {
+fn four_digests(to: &mut impl Write, p: &[u8]) -> io::Result<()> {
     if p.len() != 128 {
-        return;
+        return Ok(());
     }
     let mut m = [0u8; 128];
     words::copy_part(&mut m, 0, p);
-    cases::print(&sha256_four::digest(m));
+    cases::print(to, &sha256_four::digest(m))
 }
 
 // A key and four columns: their folds.
-fn four_folds(p: &[u8]) {
+fn four_folds(to: &mut impl Write, p: &[u8]) -> io::Result<()> {
     let n = p.len();
     if n < 8 {
-        return;
+        return Ok(());
     }
     if n % 4 != 0 {
-        return;
+        return Ok(());
     }
     let t = gf64::table(words::load64(p, 0));
     let folds = gf64::fold_four(&t, (n - 8) / 4, &p[8..]);
@@ -77,15 +82,15 @@ fn four_folds(p: &[u8]) {
     words::store64(&mut out, 8, folds[1]);
     words::store64(&mut out, 16, folds[2]);
     words::store64(&mut out, 24, folds[3]);
-    cases::print(&out);
+    cases::print(to, &out)
 }
 
 // A use number and a batch number: the nonce.
-fn nonce(p: &[u8]) {
+fn nonce(to: &mut impl Write, p: &[u8]) -> io::Result<()> {
     if p.len() != 12 {
-        return;
+        return Ok(());
     }
-    cases::print(&nonces::nonce(words::load32(p, 0), words::load64(p, 4)));
+    cases::print(to, &nonces::nonce(words::load32(p, 0), words::load64(p, 4)))
 }
 
 // Where a range ends that starts at one place and whose length stands at another; no later than the payload. The `ensures` gives the
@@ -102,37 +107,37 @@ fn end_of(p: &[u8], at: usize, start: usize) -> usize
 }
 
 // An answer's number and the digest of a range.
-fn print_answer(res: answer::Answer, s: &[u8]) {
+fn print_answer(to: &mut impl Write, res: answer::Answer, s: &[u8]) -> io::Result<()> {
     let mut line = [0u8; 33];
     line[0] = (answer::number_of(res) % 256) as u8;
     words::copy_part(&mut line, 1, &sha256::one::digest(s));
-    cases::print(&line);
+    cases::print(to, &line)
 }
 
 // A width, the lengths of roots, base pads and message, and these: the answer, and the message afterwards.
-fn receiver_setup(p: &[u8]) {
+fn receiver_setup(to: &mut impl Write, p: &[u8]) -> io::Result<()> {
     if p.len() < 16 {
-        return;
+        return Ok(());
     }
     let roots = end_of(p, 4, 16);
     let pads = end_of(p, 8, roots);
     let message = end_of(p, 12, pads);
     let n = message - pads;
     if 8200 < n {
-        return;
+        return Ok(());
     }
     let mut out = [0u8; 8200];
     let last = &mut out[0..n];
     words::copy_part(last, 0, &p[pads..message]);
     let width = words::load32(p, 0);
     let result = setup::receiver_setup(width, &p[16..roots], &p[roots..pads], last);
-    print_answer(result, last);
+    print_answer(to, result, last)
 }
 
 // A width, the lengths of delta, base pads, message and siblings, and these: the answer, and the siblings afterwards.
-fn sender_setup(p: &[u8]) {
+fn sender_setup(to: &mut impl Write, p: &[u8]) -> io::Result<()> {
     if p.len() < 20 {
-        return;
+        return Ok(());
     }
     let delta = end_of(p, 4, 20);
     let pads = end_of(p, 8, delta);
@@ -140,7 +145,7 @@ fn sender_setup(p: &[u8]) {
     let siblings = end_of(p, 16, message);
     let n = siblings - message;
     if 8200 < n {
-        return;
+        return Ok(());
     }
     let mut out = [0u8; 8200];
     let last = &mut out[0..n];
@@ -153,50 +158,53 @@ fn sender_setup(p: &[u8]) {
         &p[pads..message],
         last,
     );
-    print_answer(result, last);
+    print_answer(to, result, last)
 }
 
 // An input of foldprint: its line.
-fn line(p: &[u8]) {
+fn line(to: &mut impl Write, p: &[u8]) -> io::Result<()> {
     let l = foldtext::line(p);
     let len = l.len;
     let bytes = l.bytes;
-    io::write_all(STDOUT_FILENO, &bytes[..len]);
+    to.write_all(&bytes[..len])
 }
 
-fn case(kind: u8, p: &[u8]) {
+fn case(to: &mut impl Write, kind: u8, p: &[u8]) -> io::Result<()> {
     match kind {
-        1 => block(p),
-        2 => digest(p),
-        3 => repeated(p),
-        4 => line(p),
-        5 => four_blocks(p),
-        6 => four_digests(p),
-        7 => four_folds(p),
-        8 => nonce(p),
-        9 => receiver_setup(p),
-        10 => sender_setup(p),
-        _ => {}
+        1 => block(to, p),
+        2 => digest(to, p),
+        3 => repeated(to, p),
+        4 => line(to, p),
+        5 => four_blocks(to, p),
+        6 => four_digests(to, p),
+        7 => four_folds(to, p),
+        8 => nonce(to, p),
+        9 => receiver_setup(to, p),
+        10 => sender_setup(to, p),
+        _ => Ok(()),
     }
 }
 
 // Records one after the other: a kind, the length of what follows in 4 bytes, and that.
-fn run(s: &[u8]) {
+fn run(to: &mut impl Write, s: &[u8]) -> io::Result<()> {
     let mut at = 0;
     while 5 <= s.len() - at {
         let body = at + 5;
         let n = words::load32(s, at + 1) as usize;
         if s.len() - body < n {
-            return;
+            return Ok(());
         }
         let end = body + n;
-        case(s[at], &s[body..end]);
+        case(to, s[at], &s[body..end])?;
         at = end;
     }
+    Ok(())
 }
 
-fn main() {
+fn main(rt: HostRuntime) -> io::Result<()> {
     let mut buffer = cases::million(0);
-    let n = io::read_full(STDIN_FILENO, &mut buffer);
-    run(&buffer[..n]);
+    let n = cases::read_full(&mut rt.stdin(), &mut buffer)?;
+    let mut to = BufWriter::new(rt.alloc(), rt.stdout())?;
+    run(&mut to, &buffer[..n])?;
+    to.flush()
 }

@@ -12,8 +12,8 @@ use Rattle.consistency.specs.Message.{check_message}
 use Rattle.pads.specs.Pads.{receiver_pads}
 use Rattle.rules.specs.Orders.{without_batch}
 use Rattle.rules.proofs.Fits.{AnswerTells, answer-fits}
-use Rattle.session.proofs.receiver_answer-answer.Statement.{statement}
-use Rattle.session.proofs.receiver_answer-answer.Tie as tie
+use Rattle.session.proofs.receiver_answer.Statement.{statement}
+use Rattle.session.proofs.receiver_answer.Tie as tie
 
 receiver-answer-requires : tie.Need-receiver_answer-answer-requires
 receiver-answer-requires c κs = search rules

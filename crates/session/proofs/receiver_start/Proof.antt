@@ -17,8 +17,8 @@ use Rattle.sizes.specs.Sizes.{trees_of, column_length}
 use Rattle.columns.specs.Columns.{choices_of, receiver_table, correction_of}
 use Rattle.rules.specs.Orders.{with_batch}
 use Rattle.rules.proofs.Fits.{StartTells, start_fits}
-use Rattle.session.proofs.receiver_start-answer.Statement.{statement}
-use Rattle.session.proofs.receiver_start-answer.Tie as tie
+use Rattle.session.proofs.receiver_start.Statement.{statement}
+use Rattle.session.proofs.receiver_start.Tie as tie
 
 receiver-start-requires : tie.Need-receiver_start-answer-requires
 receiver-start-requires c κs = search rules

@@ -17,8 +17,8 @@ use Rattle.sizes.specs.Sizes.{trees_of, column_length}
 use Rattle.columns.specs.Columns.{tree_correction, sender_table}
 use Rattle.rules.specs.Orders.{with_batch}
 use Rattle.rules.proofs.Fits.{CorrectTells, correct-fits}
-use Rattle.session.proofs.sender_correct-answer.Statement.{statement}
-use Rattle.session.proofs.sender_correct-answer.Tie as tie
+use Rattle.session.proofs.sender_correct.Statement.{statement}
+use Rattle.session.proofs.sender_correct.Tie as tie
 
 sender-correct-requires : tie.Need-sender_correct-answer-requires
 sender-correct-requires c κs = search rules

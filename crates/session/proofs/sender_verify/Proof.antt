@@ -15,8 +15,8 @@ use Rattle.consistency.specs.Message.{accepts}
 use Rattle.pads.specs.Pads.{sender_pads}
 use Rattle.rules.specs.Orders.{without_batch, closed, before_check}
 use Rattle.rules.proofs.Fits.{VerifyTells, verify-fits}
-use Rattle.session.proofs.sender_verify-answer.Statement.{statement}
-use Rattle.session.proofs.sender_verify-answer.Tie as tie
+use Rattle.session.proofs.sender_verify.Statement.{statement}
+use Rattle.session.proofs.sender_verify.Tie as tie
 
 sender-verify-requires : tie.Need-sender_verify-answer-requires
 sender-verify-requires c κs = search rules
