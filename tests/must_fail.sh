@@ -23,7 +23,7 @@ if [ -n "$bad" ]; then
     exit 1
 fi
 unfit=$(grep -e '(only because a proof file names what the edit took away' -e 'has no `' -e 'has no field' -e 'is not in scope' \
-    -e 'was not checked' <<<"$told" || true)
+    -e 'not checked' <<<"$told" || true)
 if [ -n "$unfit" ]; then
     echo "must-fail edits that are not refused for a fact:"
     echo "$unfit"
