@@ -93,20 +93,18 @@ fn put_words(w: &mut [u64; 128], i: usize, v: [u64; 8])
 }
 
 // The words of all columns from byte `at` on, weights turned. Carried along from eight columns to the next eight: their byte of a row value,
-// and where the first of them has its byte `at`.
-fn gather(len: usize, table: &[u8], at: usize) -> [u64; 128]
+// and where the first of them has its byte `at`. The words are lent: as a result they would be copied, and the library needs no memcpy.
+fn gather(len: usize, table: &[u8], at: usize, w: &mut [u64; 128])
     requires { (length table.now ≡ 128 * len) × (at + 8 ≤ len) × (len ≤ 65536) }
-    ensures { Gathered len table.now at result }
+    ensures { Gathered len table.now at w.new }
 {
-    let mut w = [0u64; 128];
     let mut from = at;
     let mut byte: usize = 0;
     while byte < 16 {
-        put_words(&mut w, byte, turn_weights(column_words(table, len, from)));
+        put_words(w, byte, turn_weights(column_words(table, len, from)));
         from = from + 8 * len;
         byte += 1;
     }
-    w
 }
 
 // Eight words that stand side by side.
@@ -156,6 +154,7 @@ pub fn block_rows(len: usize, table: &[u8], at: usize, rows: &mut [u8])
     requires { (length table.now ≡ 128 * len) × (at + 8 ≤ len) × (len ≤ 65536) × (length rows.old ≡ 1024) }
     ensures { (j : ℕ) → Stands j at 0 → rows.new ≡ concat 64 (λ i. row_of columns len table.now (j + i)) }
 {
-    let w = gather(len, table, at);
+    let mut w = [0u64; 128];
+    gather(len, table, at, &mut w);
     lay(&w, rows);
 }
