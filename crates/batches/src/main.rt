@@ -8,7 +8,7 @@ ghost use Rattle.std.specs.Prelude.{◌≡◌, ◌+◌, ◌≤◌, length};
 ghost use Rattle.sizes.specs.Sizes.{siblings_length};
 
 use std::io;
-use std::io::{BufWriter, Write};
+use std::io::Write;
 
 // Two sessions, one on each side.
 #[derive(Clone, Copy)]
@@ -435,7 +435,6 @@ fn run(to: &mut impl Write, s: &[u8]) -> io::Result<()> {
 fn main(rt: HostRuntime) -> io::Result<()> {
     let mut buffer = cases::million(0);
     let n = cases::read_full(&mut rt.stdin(), &mut buffer)?;
-    let mut to = BufWriter::new(rt.alloc(), rt.stdout())?;
-    run(&mut to, &buffer[..n])?;
-    to.flush()
+    let mut to = rt.stdout();
+    run(&mut to, &buffer[..n])
 }

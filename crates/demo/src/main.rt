@@ -9,7 +9,7 @@ ghost use Rattle.sizes.specs.Sizes.{delta_length, receiver_base_pads_length, sen
 
 use answer::Answer;
 use std::io;
-use std::io::{BufWriter, Write};
+use std::io::Write;
 
 // Two sessions, one on each side.
 #[derive(Clone, Copy)]
@@ -388,7 +388,7 @@ fn play_all(to: &mut impl Write, roots: &[u8], delta: &[u8], siblings: &[u8]) ->
 }
 
 fn main(rt: HostRuntime) -> io::Result<()> {
-    let mut to = BufWriter::new(rt.alloc(), rt.stdout())?;
+    let mut to = rt.stdout();
     say(
         &mut to,
         b"answers: 0 done, 2 wrong stage, 6 check failed; stage: 0 ready, 2 closed\n",
@@ -398,6 +398,5 @@ fn main(rt: HostRuntime) -> io::Result<()> {
     let roots = &all_roots[0..sizes::roots_length(8)];
     let delta = &all_delta[0..sizes::DELTA_LENGTH];
     let siblings = siblings_of(&mut to, roots, delta)?;
-    play_all(&mut to, roots, delta, &siblings)?;
-    to.flush()
+    play_all(&mut to, roots, delta, &siblings)
 }

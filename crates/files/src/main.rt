@@ -7,7 +7,7 @@
 ghost use Rattle.std.specs.Prelude.{◌≤◌, length};
 
 use std::io;
-use std::io::{BufWriter, Write};
+use std::io::Write;
 
 // Lays a part over a file, if it has room there.
 fn lay(file: &mut [u8], place: usize, part: &[u8]) {
@@ -228,7 +228,6 @@ fn run(to: &mut impl Write, s: &[u8]) -> io::Result<()> {
 fn main(rt: HostRuntime) -> io::Result<()> {
     let mut buffer = cases::million(0);
     let n = cases::read_full(&mut rt.stdin(), &mut buffer)?;
-    let mut to = BufWriter::new(rt.alloc(), rt.stdout())?;
-    run(&mut to, &buffer[..n])?;
-    to.flush()
+    let mut to = rt.stdout();
+    run(&mut to, &buffer[..n])
 }

@@ -6,7 +6,7 @@
 ghost use Rattle.std.specs.Prelude.{◌+◌, ◌≤◌, length};
 
 use std::io;
-use std::io::{BufWriter, Write};
+use std::io::Write;
 
 // A key, a counter and a nonce: the block.
 fn block(to: &mut impl Write, p: &[u8]) -> io::Result<()> {
@@ -204,7 +204,6 @@ fn run(to: &mut impl Write, s: &[u8]) -> io::Result<()> {
 fn main(rt: HostRuntime) -> io::Result<()> {
     let mut buffer = cases::million(0);
     let n = cases::read_full(&mut rt.stdin(), &mut buffer)?;
-    let mut to = BufWriter::new(rt.alloc(), rt.stdout())?;
-    run(&mut to, &buffer[..n])?;
-    to.flush()
+    let mut to = rt.stdout();
+    run(&mut to, &buffer[..n])
 }
