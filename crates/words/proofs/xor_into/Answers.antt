@@ -12,7 +12,7 @@ loop-i-preserved g c =
     let a = c.index-dst-i.result in
     let more = c.loop-i-test.true in
     let long = law.keeps_length dst src in
-    front_more dst _ w.dst w.i c.xor.result more long w.invariant a
+    front_more dst _ w.dst w.i more long w.invariant c.xor.result a
     (law.each_place dst src w.i a more c.requires
-    ∙ ap₂ g.T.ExclusiveOr.sum (front_next dst _ w.dst w.i a more long w.invariant c.index-dst-i.is) (get_or_default src w.i a _ (omega arith) ∙ sym c.index-src-i.is)
+    ∙ ap₂ g.T.ExclusiveOr.sum (sym (c.index-dst-i.is ∙ front_next dst _ w.dst w.i more long w.invariant a)) (get_or_default src w.i a _ (omega arith) ∙ sym c.index-src-i.is)
     ∙ sym c.xor.ensures)
