@@ -3,8 +3,7 @@
 
 pub mod one;
 
-ghost use Rattle.std.specs.Prelude.{◌≡◌, ◌+◌, ◌<◌, length};
-ghost use Rattle.words.specs.Bytes.{word32};
+ghost use Rattle.std.specs.Prelude.{◌≡◌, length};
 ghost use Rattle.chacha20.specs.ChaCha.{quarter_round, add_words};
 
 #[derive(Clone, Copy)]
@@ -35,22 +34,12 @@ pub fn quarter(a: u32, b: u32, c: u32, d: u32) -> Quad
     }
 }
 
-// The word at a place of a nonce.
-pub fn nonce_word(nonce: &[u8; 12], at: usize) -> u32
-    requires { at + 3 < 12 }
-    ensures { result ≡ word32 nonce.now at }
-{
-    words::join32(nonce[at], nonce[at + 1], nonce[at + 2], nonce[at + 3])
-}
-
 // Adds the words of src to those of dst, modulo 2^32.
 pub fn add_words(dst: &mut [u32], src: &[u32])
     requires { length dst.old ≡ length src.now }
     ensures { dst.new ≡ add_words dst.old src.now }
 {
-    let mut i = 0;
-    while i < dst.len() {
+    for i in 0..dst.len() {
         dst[i] = words::add(dst[i], src[i]);
-        i += 1;
     }
 }

@@ -1,6 +1,5 @@
 // One block.
-ghost use Rattle.std.specs.Prelude.{◌≡◌, ◌+◌, ◌<◌};
-ghost use Rattle.words.specs.Bytes.{word32};
+ghost use Rattle.std.specs.Prelude.{◌≡◌, ◌<◌};
 ghost use Rattle.chacha20.specs.ChaCha.{quarter_at, double_round, double_rounds, start_of, block_of};
 
 // The quarter round on words i, j, k and l of a state.
@@ -36,13 +35,6 @@ fn rounds(s: &mut [u32; 16])
     }
 }
 
-fn key_word(key: &[u8; 32], at: usize) -> u32
-    requires { at + 3 < 32 }
-    ensures { result ≡ word32 key.now at }
-{
-    words::join32(key[at], key[at + 1], key[at + 2], key[at + 3])
-}
-
 fn start(key: &[u8; 32], counter: u32, nonce: &[u8; 12]) -> [u32; 16]
     ensures { result ≡ start_of key.now counter nonce.now }
 {
@@ -51,18 +43,18 @@ fn start(key: &[u8; 32], counter: u32, nonce: &[u8; 12]) -> [u32; 16]
         0x3320646e,
         0x79622d32,
         0x6b206574,
-        key_word(key, 0),
-        key_word(key, 4),
-        key_word(key, 8),
-        key_word(key, 12),
-        key_word(key, 16),
-        key_word(key, 20),
-        key_word(key, 24),
-        key_word(key, 28),
+        words::load32(key, 0),
+        words::load32(key, 4),
+        words::load32(key, 8),
+        words::load32(key, 12),
+        words::load32(key, 16),
+        words::load32(key, 20),
+        words::load32(key, 24),
+        words::load32(key, 28),
         counter,
-        crate::nonce_word(nonce, 0),
-        crate::nonce_word(nonce, 4),
-        crate::nonce_word(nonce, 8),
+        words::load32(nonce, 0),
+        words::load32(nonce, 4),
+        words::load32(nonce, 8),
     ]
 }
 

@@ -129,7 +129,7 @@ fn key_word(keys: &[u32; 32], l: usize, w: usize) -> u32
     requires { (l < 4) × (w < 8) }
     ensures { result ≡ word32 (key_in l keys.now) (4 * w) }
 {
-    words::known(keys[4 * w + l])
+    keys[4 * w + l]
 }
 
 fn start_lane(keys: &[u32; 32], l: usize, counter: u32, nonce: &[u8; 12]) -> State
@@ -150,9 +150,9 @@ fn start_lane(keys: &[u32; 32], l: usize, counter: u32, nonce: &[u8; 12]) -> Sta
         x10: key_word(keys, l, 6),
         x11: key_word(keys, l, 7),
         x12: counter,
-        x13: chacha20::nonce_word(nonce, 0),
-        x14: chacha20::nonce_word(nonce, 4),
-        x15: chacha20::nonce_word(nonce, 8),
+        x13: words::load32(nonce, 0),
+        x14: words::load32(nonce, 4),
+        x15: words::load32(nonce, 8),
     }
 }
 

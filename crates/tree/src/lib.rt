@@ -36,7 +36,7 @@ pub fn totals(nodes: &[u32; 32], levels: usize, t: &mut [u32])
 {
     if levels > 0 {
         let c = chacha20_four::block(nodes, 0, &nonces::nonce(0, 0));
-        words::xor_words(&mut t[0..64], &c);
+        words::xor_into(&mut t[0..64], &c);
         totals(&nodes_at(&c, 0), levels - 1, &mut t[64..]);
         totals(&nodes_at(&c, 32), levels - 1, &mut t[64..]);
     }
@@ -52,7 +52,7 @@ fn add_blocks(nonce: &[u8; 12], keys: &[u32; 32], u: &mut [u32])
     while at < u.len() {
         let c = chacha20_four::block(keys, counter, nonce);
         let end = at + 64;
-        words::xor_words(&mut u[at..end], &c);
+        words::xor_into(&mut u[at..end], &c);
         counter += 1;
         at = end;
     }
@@ -73,7 +73,7 @@ fn add_column(v: &mut [u32], r: usize, u: &[u32])
 {
     let at = r * u.len();
     let end = at + u.len();
-    words::xor_words(&mut v[at..end], u);
+    words::xor_into(&mut v[at..end], u);
 }
 
 // Adds the streams of all leaves some levels below four nodes to u, and to column b of v those of the leaves whose number has bit b.

@@ -23,23 +23,23 @@ block-requires c κs = search rules
 add-end : tie.Need-overflow_add-end invariant-loop decreases-loop
 add-end c = search rules
 
-mul-xor-words : tie.Need-offset_bounds-u-at invariant-loop decreases-loop
-mul-xor-words c = search rules
+mul-xor-into : tie.Need-offset_bounds-u-at invariant-loop decreases-loop
+mul-xor-into c = search rules
 
-sub-xor-words : tie.Need-slice_bounds-xor_words-count invariant-loop decreases-loop
-sub-xor-words c = search rules
+sub-xor-into : tie.Need-slice_bounds-xor_into-count invariant-loop decreases-loop
+sub-xor-into c = search rules
 
-part-xor-words-start : tie.Need-slice_bounds-xor_words-start invariant-loop decreases-loop
-part-xor-words-start c = search rules
+part-xor-into-start : tie.Need-slice_bounds-xor_into-start invariant-loop decreases-loop
+part-xor-into-start c = search rules
 
-part-xor-words-end : tie.Need-slice_bounds-xor_words-end invariant-loop decreases-loop
-part-xor-words-end c = search rules
+part-xor-into-end : tie.Need-slice_bounds-xor_into-end invariant-loop decreases-loop
+part-xor-into-end c = search rules
 
-slice-aggregate-xor-words : tie.Need-slice_bounds-xor_words-end-in-loop-at invariant-loop decreases-loop
-slice-aggregate-xor-words c = search rules
+slice-aggregate-xor-into : tie.Need-slice_bounds-xor_into-end-in-loop-at invariant-loop decreases-loop
+slice-aggregate-xor-into c = search rules
 
-xor-words-requires : tie.Need-xor_words-requires invariant-loop decreases-loop
-xor-words-requires c κs = search rules
+xor-into-requires : tie.Need-xor_into-requires invariant-loop decreases-loop
+xor-into-requires c κs = search rules
 
 add-counter : tie.Need-overflow_add-counter invariant-loop decreases-loop
 add-counter c = search rules
@@ -53,7 +53,7 @@ loop-again c =
     let w = block.before.before.loop-at in
     let s = block.before.before.before.before.args in
     let f = u_word (block_word s.nonce.now) 0 s.keys.now in
-    let back = part-added w.at (w.at + 64) 64 w.u _ _ refl c.before.before.xor_words.ensures in (
+    let back = part-added w.at (w.at + 64) 64 w.u _ _ refl c.before.before.xor_into.ensures in (
       omega arith,
       omega arith,
       subst (λ (z : List ℕ). Added s.u.now z f (w.at + 64)) (sym back)
@@ -76,12 +76,12 @@ add_blocks_spec =
     loop-holds
     block-requires
     add-end
-    mul-xor-words
-    sub-xor-words
-    part-xor-words-start
-    part-xor-words-end
-    slice-aggregate-xor-words
-    xor-words-requires
+    mul-xor-into
+    sub-xor-into
+    part-xor-into-start
+    part-xor-into-end
+    slice-aggregate-xor-into
+    xor-into-requires
     add-counter
     loop-less
     loop-again

@@ -10,20 +10,20 @@ mul_at c = search rules
 add-end : tie.Need-overflow_add-end
 add-end c = search rules
 
-mul-xor-words : tie.Need-offset_bounds-v-at
-mul-xor-words c = search rules
+mul-xor-into : tie.Need-offset_bounds-v-at
+mul-xor-into c = search rules
 
-sub-xor-words : tie.Need-slice_bounds-xor_words-count
-sub-xor-words c = search rules
+sub-xor-into : tie.Need-slice_bounds-xor_into-count
+sub-xor-into c = search rules
 
-part-xor-words-start : tie.Need-slice_bounds-xor_words-start
-part-xor-words-start c = search rules
+part-xor-into-start : tie.Need-slice_bounds-xor_into-start
+part-xor-into-start c = search rules
 
-part-xor-words-end : tie.Need-slice_bounds-xor_words-end
-part-xor-words-end c = search rules
+part-xor-into-end : tie.Need-slice_bounds-xor_into-end
+part-xor-into-end c = search rules
 
-xor-words-requires : tie.Need-xor_words-requires
-xor-words-requires c κs = search rules
+xor-into-requires : tie.Need-xor_into-requires
+xor-into-requires c κs = search rules
 
 same_length : tie.Need-shape_of-v
 same_length c = search rules
@@ -32,7 +32,7 @@ returns : tie.Need-returns
 returns c =
     let s = c.before.before.before.before.before.before in
     let n = length s.args.u.now in
-    part-added (s.args.r * n) _ n s.args.v.now _ _ refl c.before.before.xor_words.ensures
+    part-added (s.args.r * n) _ n s.args.v.now _ _ refl c.before.before.xor_into.ensures
 
 pub add_column_spec : {M : Type 1} → statement M
 add_column_spec =
@@ -40,10 +40,10 @@ add_column_spec =
     (tie.spec
     mul_at
     add-end
-    mul-xor-words
-    sub-xor-words
-    part-xor-words-start
-    part-xor-words-end
-    xor-words-requires
+    mul-xor-into
+    sub-xor-into
+    part-xor-into-start
+    part-xor-into-end
+    xor-into-requires
     same_length
     returns)

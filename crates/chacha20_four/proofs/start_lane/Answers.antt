@@ -1,0 +1,6 @@
+use Rattle.chacha20.specs.ChaCha.{start_of}
+use Rattle.chacha20_four.proofs.start_lane.Goals as goal
+
+pub returns : goal.returns
+unfolding start_of
+returns c = cc
