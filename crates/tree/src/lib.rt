@@ -45,10 +45,8 @@ pub fn nodes_at(s: &[u32], at: usize) -> [u32; 32]
     ensures { result ≡ part at 32 s.now }
 {
     let mut r = [0u32; 32];
-    let mut i = 0;
-    while i < 32 {
+    for i in 0..32 {
         r[i] = s[at + i];
-        i += 1;
     }
     r
 }
@@ -71,14 +69,11 @@ fn add_blocks(nonce: &[u8; 12], keys: &[u32; 32], u: &mut [u32])
     requires { (length u.old % 64 ≡ 0) × (length u.old ≤ 512) }
     ensures { u.new ≡ xor_each u.old (u_word (block_word nonce.now) 0 keys.now) }
 {
-    let mut counter = 0u32;
-    let mut at = 0;
-    while at < u.len() {
-        let c = chacha20_four::block(keys, counter, nonce);
+    for counter in 0..u.len() / 64 {
+        let c = chacha20_four::block(keys, counter as u32, nonce);
+        let at = 64 * counter;
         let end = at + 64;
         words::xor_words(&mut u[at..end], &c);
-        counter += 1;
-        at = end;
     }
 }
 
