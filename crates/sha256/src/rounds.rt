@@ -27,7 +27,7 @@ fn round<S: Schedule>(t: usize, w: &S, s: Work) -> Work
     requires { t < 64 }
     ensures { result ≡ round_at t (S.words w.now) s }
 {
-    crate::step(s, crate::K[t], w.word(t))
+    s.step(crate::K[t], w.word(t))
 }
 
 // Rounds i to i + 3: with four in a turn of the loop the compiler moves the working variables less often.

@@ -117,7 +117,7 @@ fn spread(s: Work) -> [u32; 32]
 fn rounds(w: &[u32; 256]) -> [u32; 32]
     ensures { result ≡ rounds_in_lanes 64 w.now }
 {
-    let mut t = spread(sha256::first_value());
+    let mut t = spread(Work::initial());
     for turn in 0..16usize {
         lanes(4 * turn, w, &mut t);
     }
@@ -130,7 +130,7 @@ fn finish(t: &[u32; 32], l: usize) -> [u8; 32]
     requires { l < 4 }
     ensures { result ≡ digest_in l t.now }
 {
-    sha256::serialize(sha256::sum(get(t, l), sha256::first_value()))
+    get(t, l).plus(Work::initial()).to_be_bytes()
 }
 
 fn collect(t: &[u32; 32]) -> [u8; 128]

@@ -8,7 +8,7 @@ use Rattle.sha256_four.proofs.rounds.Goals as goal
 
 pub loop-turn-init : goal.loop-turn-init
 unfolding rounds_in_lanes rounds
-loop-turn-init c = c.spread-t.ensures ∙ ap (λ (s : Work). laned 8 (λ l. words_of s)) c.first_value.ensures
+loop-turn-init c = c.spread-t.ensures ∙ ap (λ (s : Work). laned 8 (λ l. words_of s)) c.initial.ensures
 
 pub lanes-requires : goal.lanes-requires
 lanes-requires c = (omega arith, ap length c.loop-turn.invariant ∙ lanes-length _ _)

@@ -14,9 +14,9 @@ returns c =
     let padded : take end.result r.result ≡ rest_of m =
     ap (take end.result) r.ensures
     ∙ take_at (rest_of m) (zeros (128 - rest_length (length m))) end.result (rest-length m ∙ sym end.ensures) in
-    c.serialize.ensures
+    c.to_be_bytes.ensures
     ∙ ap work_bytes
     (c.hash.ensures
     ∙ ap₂ (λ (l : List ℕ) (h : Work). hashed (length l / 64) l h) padded
-    (c.hash-v.ensures ∙ ap (hashed (length m / 64) m) c.first_value.ensures))
+    (c.hash-v.ensures ∙ ap (hashed (length m / 64) m) c.initial.ensures))
     ∙ sym (digest-rest m)
