@@ -12,14 +12,14 @@ use Rattle.words.specs.Lanes.{lane, laned}
 use Rattle.words.proofs.Concat.{concat-same, concat-length}
 use Rattle.words.proofs.Lanes.{lane-at, laned-length, laned-at, lane-laned, laned-is}
 use Rattle.sha256.specs.declared.Work.{Work}
-use Rattle.sha256.specs.Sha.{word_at, zeros, padding, constants, padded, initial, next_word, scheduled, stepped, round_at, rounds, added, compressed, hashed, work_bytes, digest_of}
+use Rattle.sha256.specs.Sha.{word_at, zeros, padding, padded, initial, next_word, scheduled, rounds, added, compressed, hashed, work_bytes, digest_of}
 use Rattle.sha256_four.specs.FourDigests.{message, digests, pad_words, words_of, work_of, schedules, schedule_in, four_in_lanes, rounds_in_lanes, digest_in}
 use Rattle.sha256.specs.Pieces.{four_rounds}
 use Rattle.words.proofs.Below.{below}
 use Rattle.words.proofs.Progress.{Begun}
 use Rattle.sha256.proofs.Words.{next-cong, word_first, word_next, scheduled-length}
 use Rattle.sha256.proofs.Blocks.{padding-length, put_next, drop-zeros}
-use Rattle.sha256.proofs.Rounds.{four-more}
+use Rattle.sha256.proofs.FourRounds.{four-more}
 
 -- ---- the block of a message of 32 bytes
 
@@ -134,13 +134,11 @@ module _ (m : List ℕ) (e : length m ≡ 128) where
 
 -- ---- rounds in a lane
 
-pub round-in : (k w : List ℕ) (s : Work) (i l at : ℕ) → k ≡ constants → i < 64 → at ≡ 4 * i + l
-    → stepped s (get_or k i 0) (get_or w at 0) ≡ round_at i (schedule_in l w) s
+pub word_in : (l t : ℕ) (w : List ℕ) → t < 64 → get_or w (4 * t + l) 0 ≡ get_or (schedule_in l w) t 0
 unfolding schedule_in
-round-in k w s i l at e h q =
-    let place : at ≡ 0 + 4 * i + l = omega arith in
-    ap₂ (stepped s) (ap (λ (c : List ℕ). get_or c i 0) e)
-    (ap (λ (j : ℕ). get_or w j 0) place ∙ sym (lane-at l 0 64 i w h))
+word_in l t w h =
+    let place : 4 * t + l ≡ 0 + 4 * t + l = omega arith in
+    ap (λ (j : ℕ). get_or w j 0) place ∙ sym (lane-at l 0 64 t w h)
 
 pub lanes-length : (i : ℕ) (w : List ℕ) → length (rounds_in_lanes i w) ≡ 32
 unfolding rounds_in_lanes
@@ -150,16 +148,20 @@ pub lane-rounds : (i l : ℕ) (w : List ℕ) → l < 4 → work_of (lane l 8 (ro
 unfolding rounds_in_lanes
 lane-rounds i l w h = ap work_of (lane-laned 8 (λ l. words_of (rounds i (schedule_in l w) initial)) l h refl)
 
-pub lanes-stepped : (i : ℕ) (w : List ℕ) → four_in_lanes i w (rounds_in_lanes i w) ≡ rounds_in_lanes (i + 4) w
+-- lane l of t after four rounds
+abbrev pub after : ℕ → List ℕ → List ℕ → ℕ → List ℕ
+after i w t l = words_of (four_rounds i (schedule_in l w) (work_of (lane l 8 t)))
+
+pub lanes-stepped : (turn : ℕ) (w : List ℕ) → four_in_lanes (4 * turn) w (rounds_in_lanes (4 * turn) w) ≡ rounds_in_lanes (4 * (turn + 1)) w
 unfolding four_in_lanes rounds_in_lanes
-lanes-stepped i w =
-    laned-is 8 (λ l. words_of (rounds (i + 4) (schedule_in l w) initial)) (laned 8 f) (laned-length 8 f)
+lanes-stepped turn w =
+    laned-is 8 (λ l. words_of (rounds (4 * (turn + 1)) (schedule_in l w) initial)) (laned 8 f) (laned-length 8 f)
     (λ l h.
     lane-laned 8 f l h refl
-    ∙ ap words_of (ap (four_rounds i (schedule_in l w)) (lane-rounds i l w h) ∙ four-more i (schedule_in l w) initial))
+    ∙ ap words_of (ap (four_rounds (4 * turn) (schedule_in l w)) (lane-rounds (4 * turn) l w h) ∙ four-more turn (schedule_in l w) initial))
   where
     f : ℕ → List ℕ
-    f l = words_of (four_rounds i (schedule_in l w) (work_of (lane l 8 (rounds_in_lanes i w))))
+    f = after (4 * turn) w (rounds_in_lanes (4 * turn) w)
 
 -- ---- the digests
 

@@ -4,34 +4,33 @@
 ghost use Rattle.std.specs.Prelude.{◌≡◌, ◌+◌, ◌<◌, length, get_or, take};
 ghost use Rattle.words.specs.Bytes.{concat};
 ghost use Rattle.words.specs.Lanes.{lane, put_lane, laned};
-ghost use Rattle.sha256_four.specs.FourDigests.{digests, pad_words, words_of, work_of, schedules, schedule_in, four_in_lanes, rounds_in_lanes, digest_in};
-ghost use Rattle.sha256.specs.Pieces.{four_rounds};
-ghost use Rattle.sha256.specs.Sha.{constants, round_at};
+ghost use Rattle.sha256_four.specs.FourDigests.{digests, words_of, work_of, schedules, schedule_in, four_in_lanes, rounds_in_lanes, digest_in};
 
 use sha256::Work;
+use sha256::rounds::{Schedule, four_rounds};
 
 // Words 8 to 15 of the block of a message of 32 bytes: its padding.
 const PAD: [u32; 8] = [0x80000000, 0, 0, 0, 0, 0, 0, 256];
 
 // Word at / 4 of the block of message at % 4.
-fn first_word(m: &[u8], pad: &[u32; 8], at: usize) -> u32
-    requires { (length m.now ≡ 128) × (pad.now ≡ pad_words) × (at < 64) }
+fn first_word(m: &[u8], at: usize) -> u32
+    requires { (length m.now ≡ 128) × (at < 64) }
     ensures { result ≡ get_or (schedules m.now) at 0 }
 {
     if at < 32 {
         sha256::word(m, 32 * (at % 4) + 4 * (at / 4))
     } else {
-        pad[at / 4 - 8]
+        PAD[at / 4 - 8]
     }
 }
 
-fn load(m: &[u8], pad: &[u32; 8]) -> [u32; 256]
-    requires { (length m.now ≡ 128) × (pad.now ≡ pad_words) }
+fn load(m: &[u8]) -> [u32; 256]
+    requires { length m.now ≡ 128 }
     ensures { take 64 result ≡ take 64 (schedules m.now) }
 {
     let mut w = [0u32; 256];
     for at in 0..64usize {
-        w[at] = first_word(m, pad, at);
+        w[at] = first_word(m, at);
     }
     w
 }
@@ -40,7 +39,7 @@ fn schedule(m: &[u8]) -> [u32; 256]
     requires { length m.now ≡ 128 }
     ensures { result ≡ schedules m.now }
 {
-    let mut w = load(m, &PAD);
+    let mut w = load(m);
     for at in 0..192usize {
         w[at + 64] = sha256::next(w[at + 56], w[at + 36], w[at + 4], w[at]);
     }
@@ -78,32 +77,30 @@ fn put(t: &mut [u32; 32], l: usize, s: Work)
     t[28 + l] = s.h;
 }
 
-// Round t in lane l.
-fn round(t: usize, k: &[u32; 64], w: &[u32; 256], l: usize, s: Work) -> Work
-    requires { (k.now ≡ constants) × (t < 64) × (l < 4) }
-    ensures { result ≡ round_at t (schedule_in l w.now) s }
-{
-    sha256::step(s, k[t], w[4 * t + l])
+// The schedule in lane l of four.
+#[derive(Drop)]
+struct Lane<'a> {
+    words: &'a [u32; 256],
+    l: usize,
+    ghost among_four: { l < 4 },
 }
 
-// Rounds i to i + 3 in lane l.
-fn four_rounds(i: usize, k: &[u32; 64], w: &[u32; 256], l: usize, s: Work) -> Work
-    requires { (k.now ≡ constants) × (i + 3 < 64) × (l < 4) }
-    ensures { result ≡ four_rounds i (schedule_in l w.now) s }
-{
-    let s1 = round(i, k, w, l, s);
-    let s2 = round(i + 1, k, w, l, s1);
-    let s3 = round(i + 2, k, w, l, s2);
-    round(i + 3, k, w, l, s3)
+impl Schedule for Lane<'_> {
+    ghost words = { λ s. schedule_in s.l s.words.now };
+
+    #[tactic(auto, using(crate::proofs::InLanes::word_in))]
+    fn word(&self, t: usize) -> u32 {
+        self.words[4 * t + self.l]
+    }
 }
 
-fn lanes(i: usize, k: &[u32; 64], w: &[u32; 256], t: &mut [u32; 32])
-    requires { (k.now ≡ constants) × (i + 3 < 64) × (length t.old ≡ 32) }
+fn lanes(i: usize, w: &[u32; 256], t: &mut [u32; 32])
+    requires { (i + 3 < 64) × (length t.old ≡ 32) }
     ensures { t.new ≡ four_in_lanes i w.now t.old }
 {
     for l in 0..4usize {
         let s = get(&*t, l);
-        put(&mut *t, l, four_rounds(i, k, w, l, s));
+        put(&mut *t, l, four_rounds(i, &Lane { words: w, l }, s));
     }
 }
 
@@ -117,25 +114,23 @@ fn spread(s: Work) -> [u32; 32]
     ]
 }
 
-fn rounds(k: &[u32; 64], w: &[u32; 256]) -> [u32; 32]
-    requires { k.now ≡ constants }
+fn rounds(w: &[u32; 256]) -> [u32; 32]
     ensures { result ≡ rounds_in_lanes 64 w.now }
 {
-    let mut t = spread(sha256::first_value());
-    let mut i: usize = 0;
-    while i < 64 {
-        lanes(i, k, w, &mut t);
-        i += 4;
+    let mut t = spread(Work::initial());
+    for turn in 0..16usize {
+        lanes(4 * turn, w, &mut t);
     }
     t
 }
 
 // The digest that lane l ends with.
+#[tactic(auto, unfolding(crate::specs::FourDigests::digest_in))]
 fn finish(t: &[u32; 32], l: usize) -> [u8; 32]
     requires { l < 4 }
     ensures { result ≡ digest_in l t.now }
 {
-    sha256::serialize(sha256::sum(get(t, l), sha256::first_value()))
+    get(t, l).plus(Work::initial()).to_be_bytes()
 }
 
 fn collect(t: &[u32; 32]) -> [u8; 128]
@@ -153,6 +148,6 @@ pub fn digest(m: [u8; 128]) -> [u8; 128]
     ensures { result ≡ digests m }
 {
     let w = schedule(&m);
-    let t = rounds(&sha256::K, &w);
+    let t = rounds(&w);
     collect(&t)
 }
