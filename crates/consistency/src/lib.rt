@@ -33,11 +33,8 @@ pub fn fold_columns(m: usize, len: usize, t: &[u32; 512], table: &[u8], out: &mu
 {
     for q in 0..m / 4 {
         let i = 4 * q;
-        let from = i * len;
-        let to = (i + 4) * len;
-        let x = gf64::fold_four(t, len, &table[from..to]);
-        let at = 8 * i;
-        store_four(&mut out[at..at + 32], x);
+        let x = gf64::fold_four(t, len, &table[i * len..(i + 4) * len]);
+        store_four(&mut out[8 * i..8 * i + 32], x);
     }
 }
 
@@ -48,9 +45,7 @@ pub fn write_message(m: usize, key: u64, choices: &[u8], table: &[u8], message: 
 {
     words::store64(message, 0, gf64::fold(key, choices));
     let t = gf64::table(key);
-    let start: usize = 8;
-    let end = start + 8 * m;
-    fold_columns(m, choices.len(), &t, table, &mut message[start..end]);
+    fold_columns(m, choices.len(), &t, table, &mut message[8..]);
 }
 
 // The two sides of the check in column c, added, where folds has those of the sender's columns: 0 where they are equal.
@@ -86,6 +81,6 @@ pub fn accepts(m: usize, len: usize, key: u64, table: &[u8], delta: &[u8], messa
     let t = gf64::table(key);
     let size = 8 * m;
     let mut folds = [0u8; 8 * sizes::COLUMNS];
-    fold_columns(m, len, &t, table, &mut folds[0..size]);
-    all_equal(m, &folds[0..size], delta, message)
+    fold_columns(m, len, &t, table, &mut folds[..size]);
+    all_equal(m, &folds[..size], delta, message)
 }
