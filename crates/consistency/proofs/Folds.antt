@@ -8,7 +8,7 @@ use native.Mathlib.Numerals.{add-one}
 use lib.ListN.{length, get_or, take}
 use Rattle.words.specs.Bytes.{bytes, part, put, concat}
 use Rattle.words.proofs.Below.{below}
-use Rattle.words.proofs.Parts.{put-length, put_front}
+use Rattle.words.proofs.Parts.{put_front}
 use Rattle.words.proofs.Concat.{concat-same, place-part}
 use Rattle.gf64.specs.Field.{fold_bytes}
 use Rattle.gf64.specs.Table.{folds_of}
@@ -16,17 +16,14 @@ use Rattle.tree.specs.Layout.{column_of}
 
 -- a word in progress: the first i words are laid out, and one more is
 pub word_more : (f : ℕ → ℕ) (d : List ℕ) (i : ℕ) → 8 * i + 8 ≤ length d → take (8 * i) d ≡ concat i (λ j. bytes 8 (f j))
-    → (length (put d (8 * i) (bytes 8 (f i))) ≡ length d)
-    × (take (8 * (i + 1)) (put d (8 * i) (bytes 8 (f i))) ≡ concat (i + 1) (λ j. bytes 8 (f j)))
+    → take (8 * (i + 1)) (put d (8 * i) (bytes 8 (f i))) ≡ concat (i + 1) (λ j. bytes 8 (f j))
 unfolding concat
 word_more f d i h before =
-    let next : 8 * (i + 1) ≡ 8 * i + length (bytes 8 (f i)) = omega arith in (
-      put-length d (8 * i) (bytes 8 (f i)) h,
-      ap (λ (n : ℕ). take n (put d (8 * i) (bytes 8 (f i)))) next
-          ∙ put_front d (8 * i) (bytes 8 (f i)) (omega arith)
-          ∙ ap (λ (s : List ℕ). s ++ bytes 8 (f i)) before
-          ∙ sym (ap (λ (n : ℕ). concat n (λ j. bytes 8 (f j))) (add-one i)),
-    )
+    let next : 8 * (i + 1) ≡ 8 * i + length (bytes 8 (f i)) = omega arith in
+    ap (λ (n : ℕ). take n (put d (8 * i) (bytes 8 (f i)))) next
+    ∙ put_front d (8 * i) (bytes 8 (f i)) (omega arith)
+    ∙ ap (λ (s : List ℕ). s ++ bytes 8 (f i)) before
+    ∙ sym (ap (λ (n : ℕ). concat n (λ j. bytes 8 (f j))) (add-one i))
 
 -- ---- four columns
 

@@ -13,15 +13,15 @@ ghost use Rattle.sizes.specs.Sizes.{columns};
 ghost use Rattle.tree.specs.Layout.{column_of};
 ghost use Rattle.consistency.specs.Message.{check_message, sent_choice, sent_column, choice_side, accepts};
 
+use gf64::Word;
+
 // Lays out four words, 8 bytes each.
 fn store_four(out: &mut [u8], x: [u64; 4])
     requires { length out.old ≡ 32 }
     ensures { out.new ≡ concat 4 (λ i. bytes 8 (get_or x i 0)) }
 {
-    let mut i: usize = 0;
-    while i < 4 {
+    for i in 0..4 {
         words::store64(out, 8 * i, x[i]);
-        i += 1;
     }
 }
 
@@ -31,16 +31,10 @@ pub fn fold_columns(m: usize, len: usize, t: &[u32; 512], table: &[u8], out: &mu
     requires { (m % 4 ≡ 0) × (length table.now ≡ m * len) × (length out.old ≡ 8 * m) }
     ensures { (g : ℕ) → t.now ≡ key_table g → out.new ≡ concat m (λ c. bytes 8 (fold_bytes g (column_of len table.now c))) }
 {
-    let mut i: usize = 0;
-    while i < m {
-        let next = i + 4;
-        let from = i * len;
-        let to = next * len;
-        let x = gf64::fold_four(t, len, &table[from..to]);
-        let at = i * 8;
-        let end = next * 8;
-        store_four(&mut out[at..end], x);
-        i = next;
+    for q in 0..m / 4 {
+        let i = 4 * q;
+        let x = gf64::fold_four(t, len, &table[i * len..(i + 4) * len]);
+        store_four(&mut out[8 * i..8 * i + 32], x);
     }
 }
 
@@ -51,9 +45,7 @@ pub fn write_message(m: usize, key: u64, choices: &[u8], table: &[u8], message: 
 {
     words::store64(message, 0, gf64::fold(key, choices));
     let t = gf64::table(key);
-    let start: usize = 8;
-    let end = start + 8 * m;
-    fold_columns(m, choices.len(), &t, table, &mut message[start..end]);
+    fold_columns(m, choices.len(), &t, table, &mut message[8..]);
 }
 
 // The two sides of the check in column c, added, where folds has those of the sender's columns: 0 where they are equal.
@@ -65,7 +57,7 @@ fn difference(folds: &[u8], delta: &[u8], message: &[u8], c: usize) -> u64
     let sent = words::load64(message, 8 + 8 * c);
     let choice = words::load64(message, 0);
     let bit = words::bit(delta, c);
-    gf64::add_bit64(sent ^ folded, bit as u64, choice)
+    (sent ^ folded).add_bit(bit as u64, choice)
 }
 
 // Whether the two sides are equal in each of m columns, from the folds of the sender's. No column is told, and none is left out once one
@@ -75,10 +67,8 @@ fn all_equal(m: usize, folds: &[u8], delta: &[u8], message: &[u8]) -> bool
     ensures { (len g : ℕ) (table : List ℕ) → g < 2 ^ 64 → Bytes table → folds.now ≡ concat m (λ c. bytes 8 (fold_bytes g (column_of len table c))) → result ≡ accepts m len g table delta.now message.now }
 {
     let mut all: u64 = 0;
-    let mut c: usize = 0;
-    while c < m {
-        all = all | difference(folds, delta, message, c);
-        c += 1;
+    for c in 0..m {
+        all |= difference(folds, delta, message, c);
     }
     all == 0
 }
@@ -91,6 +81,6 @@ pub fn accepts(m: usize, len: usize, key: u64, table: &[u8], delta: &[u8], messa
     let t = gf64::table(key);
     let size = 8 * m;
     let mut folds = [0u8; 8 * sizes::COLUMNS];
-    fold_columns(m, len, &t, table, &mut folds[0..size]);
-    all_equal(m, &folds[0..size], delta, message)
+    fold_columns(m, len, &t, table, &mut folds[..size]);
+    all_equal(m, &folds[..size], delta, message)
 }

@@ -1,5 +1,5 @@
 -- The entries below m are right, and p is the word of row m / 8.
-use Rattle.std.proofs.Common.{◌≡◌, ℕ, ◌-◌, ◌/◌, ◌<◌, ◌≤◌, List, length, get_or}
+use Rattle.std.proofs.Common.{◌≡◌, ℕ, ◌/◌, ◌<◌, ◌≤◌, List, length, get_or}
 use Rattle.gf64.specs.Table.{power, key_table}
 use Rattle.gf64.proofs.table.Given as goal
 
@@ -11,6 +11,3 @@ pub record Filled (key : ℕ) (t : List ℕ) (p m : ℕ) : Type 0 where
 
 abbrev pub invariant-loop-m : goal.invariant-loop-m
 invariant-loop-m l = Filled l.key l.t l.p l.m
-
-abbrev pub decreases-loop-m : goal.decreases-loop-m
-decreases-loop-m l = 512 - l.m
