@@ -11,18 +11,14 @@ use Rattle.words.proofs.Concat.{part_length, concat-same, concat-part}
 use Rattle.sha256.specs.Sha.{digest_of}
 use Rattle.sha256_four.specs.FourDigests.{digests}
 use Rattle.sha256.proofs.Blocks.{put_next}
-use Rattle.sha256.proofs.Digests.{digest-length}
 use Rattle.pads.specs.Pads.{letters, pad_input, pad_of}
+pub use Rattle.pads.specs.Lengths.{pad-length}
 
 -- ---- one input
 
 pub input-length : (batch j : ℕ) (row : List ℕ) → length row ≡ 16 → length (pad_input batch j row) ≡ 32
 unfolding pad_input
 input-length batch j row e = omega (arith, e)
-
-pub pad-length : (batch j : ℕ) (row : List ℕ) → length (pad_of batch j row) ≡ 32
-unfolding pad_of
-pad-length batch j row = digest-length (pad_input batch j row)
 
 -- its four parts, laid over 32 bytes one after the other
 pub input-is : (d : List ℕ) (batch j : ℕ) (row : List ℕ) → length d ≡ 32 → length row ≡ 16

@@ -1,11 +1,13 @@
 // The pads of the rows of a table: each is a hash of a row value.
 #![tactic(auto)]
 
-ghost use Rattle.std.specs.Prelude.{◌≡◌, ◌++◌, ◌+◌, ◌*◌, ◌≤◌, length};
+ghost use Rattle.std.specs.Prelude.{◌≡◌, ◌++◌, ℕ, List, ◌+◌, ◌*◌, ◌≤◌, length};
 ghost use Rattle.words.specs.Bytes.{part, concat};
-ghost use Rattle.words.specs.Xor.{xor_list};
-ghost use Rattle.sizes.specs.Sizes.{columns, delta_length, table_length, receiver_pads_length, sender_pads_length};
-ghost use Rattle.pads.specs.Pads.{pad_input, pad_of, receiver_pads, sender_pads};
+ghost use Rattle.sizes.specs.Sizes.{columns, delta_length, column_length, table_length, receiver_pads_length, sender_pads_length};
+ghost use Rattle.rows.specs.Row.{row_of};
+ghost use Rattle.pads.specs.Pads.{pad_input, pad_of, pair_of, ValuesFit, of_values, receiver_pads, sender_pads};
+ghost use Rattle.pads.specs.Lengths.{pad-length, pair-length};
+ghost use Rattle.std.proofs.Common.{lit≤};
 
 // The head of each hashed block.
 const LETTERS: [u8; 4] = *b"PADS";
@@ -26,30 +28,25 @@ fn write_input(out: &mut [u8], batch: u64, row: u32, value: &[u8])
 
 // The inputs of the pads of four rows, from their values.
 fn four_inputs(out: &mut [u8], batch: u64, first: u32, values: &[u8])
-    requires { (length out.old ≡ 128) × (first + 4 ≤ 4294967296) × (length values.now ≡ 64) }
-    ensures { out.new ≡ concat 4 (λ i. pad_input batch (first + i) (part (i * 16) 16 values.now)) }
+    requires { (length out.old ≡ 128) × ValuesFit 4 first values.now }
+    ensures { out.new ≡ of_values 4 (pad_input batch) first values.now }
 {
-    let mut i = 0;
-    while i < 4 {
-        let next = i + 1;
+    for i in 0..4 {
         let start = i * 32;
-        let end = next * 32;
         let from = i * 16;
-        let to = next * 16;
         write_input(
-            &mut out[start..end],
+            &mut out[start..start + 32],
             batch,
-            first + (i as u32),
-            &values[from..to],
+            first + i as u32,
+            &values[from..from + 16],
         );
-        i = next;
     }
 }
 
 // The pads of four rows, hashed at once.
 fn four_pads(batch: u64, first: u32, values: &[u8], pads: &mut [u8])
-    requires { (first + 4 ≤ 4294967296) × (length values.now ≡ 64) × (length pads.old ≡ 128) }
-    ensures { pads.new ≡ concat 4 (λ i. pad_of batch (first + i) (part (i * 16) 16 values.now)) }
+    requires { ValuesFit 4 first values.now × (length pads.old ≡ 128) }
+    ensures { pads.new ≡ of_values 4 (pad_of batch) first values.now }
 {
     let mut m = [0u8; 128];
     four_inputs(&mut m, batch, first, values);
@@ -57,125 +54,138 @@ fn four_pads(batch: u64, first: u32, values: &[u8], pads: &mut [u8])
     words::copy_part(pads, 0, &digests);
 }
 
-// The pads of the 64 rows of a block, four at a time.
-fn block_pads(batch: u64, first: u32, values: &[u8], pads: &mut [u8])
-    requires { (first + 64 ≤ 4294967296) × (length values.now ≡ 1024) × (length pads.old ≡ 2048) }
-    ensures { pads.new ≡ concat 64 (λ i. pad_of batch (first + i) (part (i * 16) 16 values.now)) }
-{
-    let mut group = 0;
-    while group < GROUPS {
-        let next = group + 1;
-        let from = group * 64;
-        let to = next * 64;
-        let start = group * 128;
-        let end = next * 128;
-        four_pads(
-            batch,
-            first + (4 * group) as u32,
-            &values[from..to],
-            &mut pads[start..end],
-        );
-        group = next;
-    }
-}
-
-// The receiver's pads: one for each row of its table, but those of the spent block. From block to block the number of its first row and the
-// byte at which that row stands are carried along.
-pub fn receiver_pads(blocks: usize, batch: u64, table: &[u8], pads: &mut [u8])
-    requires { (blocks ≤ 15) × (length table.now ≡ table_length blocks) × (length pads.old ≡ receiver_pads_length blocks) }
-    ensures { pads.new ≡ receiver_pads columns blocks batch table.now }
-{
-    let len = 8 * (blocks + 1);
-    let mut first: u32 = 0;
-    let mut at = 0;
-    let mut block = 0;
-    while block < blocks {
-        let next = block + 1;
-        let mut values = [0u8; 1024];
-        rows::block_rows(len, table, at, &mut values);
-        let start = block * 2048;
-        let end = next * 2048;
-        block_pads(batch, first, &values, &mut pads[start..end]);
-        first += 64;
-        at += 8;
-        block = next;
-    }
-}
-
 // Lays the pads of four rows side by side: pad 0 before pad 1 in each row.
 fn pair_pads(pads0: &[u8], pads1: &[u8], pairs: &mut [u8])
     requires { (length pads0.now ≡ 128) × (length pads1.now ≡ 128) × (length pairs.old ≡ 256) }
     ensures { pairs.new ≡ concat 4 (λ i. part (i * 32) 32 pads0.now ++ part (i * 32) 32 pads1.now) }
 {
-    let mut i = 0;
-    while i < 4 {
-        let next = i + 1;
+    for i in 0..4 {
         let start = i * 32;
-        let end = next * 32;
         let at = i * 64;
-        words::copy_part(pairs, at, &pads0[start..end]);
-        words::copy_part(pairs, at + 32, &pads1[start..end]);
-        i = next;
+        words::copy_part(pairs, at, &pads0[start..start + 32]);
+        words::copy_part(pairs, at + 32, &pads1[start..start + 32]);
     }
 }
 
-// Both pads of four rows: pad 0 hashes the row value, pad 1 the row value with delta added.
-fn four_pairs(batch: u64, first: u32, values: &[u8], delta: &[u8], pairs: &mut [u8])
-    requires { (first + 4 ≤ 4294967296) × (length values.now ≡ 64) × (length delta.now ≡ delta_length) × (length pairs.old ≡ 256) }
-    ensures { pairs.new ≡ concat 4 (λ i. pad_of batch (first + i) (part (i * 16) 16 values.now) ++ pad_of batch (first + i) (xor_list (part (i * 16) 16 values.now) delta.now)) }
-{
-    let mut shifted = [0u8; 64];
-    words::copy_part(&mut shifted, 0, values);
-    words::xor_parts(&mut shifted, 4, delta);
-    let mut pads0 = [0u8; 128];
-    four_pads(batch, first, values, &mut pads0);
-    let mut pads1 = [0u8; 128];
-    four_pads(batch, first, &shifted, &mut pads1);
-    pair_pads(&pads0, &pads1, pairs);
+// A side's pads: those of a row, SIZE bytes, are made from its number and its value.
+trait Pads<const SIZE: usize> {
+    // Those of a row.
+    ghost made: { Self → ℕ → List ℕ → List ℕ };
+
+    // Makes those of four rows.
+    fn four(&self, first: u32, values: &[u8], pads: &mut [u8])
+        requires { ValuesFit 4 first values.now × (length pads.old ≡ 4 * SIZE) }
+        ensures { pads.new ≡ of_values 4 (made self.now) first values.now };
+
+    ghost small: { SIZE ≤ 64 };
+
+    ghost sized: { (s : Self) (j : ℕ) (value : List ℕ) → length (made s j value) ≡ SIZE };
 }
 
-// Both pads of the 64 rows of a block, four rows at a time.
-fn block_pairs(batch: u64, first: u32, values: &[u8], delta: &[u8], pairs: &mut [u8])
-    requires { (first + 64 ≤ 4294967296) × (length values.now ≡ 1024) × (length delta.now ≡ delta_length) × (length pairs.old ≡ 4096) }
-    ensures { pairs.new ≡ concat 64 (λ i. pad_of batch (first + i) (part (i * 16) 16 values.now) ++ pad_of batch (first + i) (xor_list (part (i * 16) 16 values.now) delta.now)) }
+// The receiver's: one for each row.
+#[derive(Drop)]
+struct Receiver {
+    batch: u64,
+}
+
+impl Pads<32> for Receiver {
+    ghost made = { λ s. pad_of s.batch };
+
+    fn four(&self, first: u32, values: &[u8], pads: &mut [u8]) {
+        four_pads(self.batch, first, values, pads);
+    }
+
+    ghost small = { lit≤ tt };
+
+    ghost sized = { λ s. pad-length s.batch };
+}
+
+// The sender's: two for each row. Pad 0 hashes the row value, pad 1 the row value with delta added.
+#[derive(Drop)]
+struct Sender<'a> {
+    batch: u64,
+    delta: &'a [u8],
+    ghost long: { length delta.now ≡ delta_length },
+}
+
+impl Pads<64> for Sender<'_> {
+    ghost made = { λ s. pair_of s.batch s.delta.now };
+
+    fn four(&self, first: u32, values: &[u8], pads: &mut [u8]) {
+        let mut shifted = [0u8; 64];
+        words::copy_part(&mut shifted, 0, values);
+        words::xor_parts(&mut shifted, 4, self.delta);
+        let mut pads0 = [0u8; 128];
+        four_pads(self.batch, first, values, &mut pads0);
+        let mut pads1 = [0u8; 128];
+        four_pads(self.batch, first, &shifted, &mut pads1);
+        pair_pads(&pads0, &pads1, pads);
+    }
+
+    ghost small = { lit≤ tt };
+
+    ghost sized = { λ s. pair-length s.batch s.delta.now };
+}
+
+// The pads of the 64 rows of a block, four rows at a time.
+fn block_pads<const SIZE: usize, P: Pads<SIZE>>(
+    side: &P,
+    first: u32,
+    values: &[u8],
+    pads: &mut [u8],
+)
+    requires { ValuesFit 64 first values.now × (length pads.old ≡ 16 * (4 * SIZE)) }
+    ensures { pads.new ≡ of_values 64 (P.made side.now) first values.now }
 {
-    let mut group = 0;
-    while group < GROUPS {
-        let next = group + 1;
+    let size = 4 * SIZE;
+    for group in 0..GROUPS {
         let from = group * 64;
-        let to = next * 64;
-        let start = group * 256;
-        let end = next * 256;
-        four_pairs(
-            batch,
+        let start = group * size;
+        side.four(
             first + (4 * group) as u32,
-            &values[from..to],
-            delta,
-            &mut pairs[start..end],
+            &values[from..from + 64],
+            &mut pads[start..start + size],
         );
-        group = next;
     }
 }
 
-// The sender's pads: two for each row of its table, but those of the spent block. Number and byte of a block's first row are carried as the
-// receiver's are.
+// The pads of all rows of a table but those of the spent block. From block to block the number of its first row and the byte at which that row
+// stands are carried along.
+fn table_pads<const SIZE: usize, P: Pads<SIZE>>(
+    side: &P,
+    blocks: usize,
+    table: &[u8],
+    pads: &mut [u8],
+)
+    requires { (blocks ≤ 15) × (length table.now ≡ table_length blocks) × (length pads.old ≡ blocks * (64 * SIZE)) }
+    ensures { pads.new ≡ concat (64 * blocks) (λ j. P.made side.now j (row_of columns (column_length blocks) table.now j)) }
+{
+    let len = 8 * (blocks + 1);
+    let size = 64 * SIZE;
+    let mut first: u32 = 0;
+    let mut at = 0;
+    for block in 0..blocks {
+        let mut values = [0u8; 1024];
+        rows::block_rows(len, table, at, &mut values);
+        let start = block * size;
+        block_pads(side, first, &values, &mut pads[start..start + size]);
+        first += 64;
+        at += 8;
+    }
+}
+
+// The receiver's pads: one for each row of its table, but those of the spent block.
+pub fn receiver_pads(blocks: usize, batch: u64, table: &[u8], pads: &mut [u8])
+    requires { (blocks ≤ 15) × (length table.now ≡ table_length blocks) × (length pads.old ≡ receiver_pads_length blocks) }
+    ensures { pads.new ≡ receiver_pads columns blocks batch table.now }
+{
+    table_pads(&Receiver { batch }, blocks, table, pads);
+}
+
+// The sender's pads: two for each row of its table, but those of the spent block.
 pub fn sender_pads(blocks: usize, batch: u64, table: &[u8], delta: &[u8], pads: &mut [u8])
     requires { (blocks ≤ 15) × (length table.now ≡ table_length blocks) × (length delta.now ≡ delta_length) × (length pads.old ≡ sender_pads_length blocks) }
     ensures { pads.new ≡ sender_pads columns blocks batch table.now delta.now }
 {
-    let len = 8 * (blocks + 1);
-    let mut first: u32 = 0;
-    let mut at = 0;
-    let mut block = 0;
-    while block < blocks {
-        let next = block + 1;
-        let mut values = [0u8; 1024];
-        rows::block_rows(len, table, at, &mut values);
-        let start = block * 4096;
-        let end = next * 4096;
-        block_pairs(batch, first, &values, delta, &mut pads[start..end]);
-        first += 64;
-        at += 8;
-        block = next;
-    }
+    table_pads(&Sender { batch, delta }, blocks, table, pads);
 }

@@ -40,18 +40,18 @@ from_is len at k b q =
 -- ---- the words of the columns, turned
 
 -- y is word 16r + k: at byte q, weight 2^b, it has the bit of byte q, weight 2^r of the word of column 8k + b
-abbrev pub Turned : (t : List ℕ) (len at k r y : ℕ) → Type 0
-Turned t len at k r y = (q b : ℕ) → q < 8 → b < 8 → bit_of y (8 * q + b) ≡ bit_of (word64 t (at + k * (8 * len) + b * len)) (8 * q + r)
+abbrev pub TurnedWord : (t : List ℕ) (len at k r y : ℕ) → Type 0
+TurnedWord t len at k r y = (q b : ℕ) → q < 8 → b < 8 → bit_of y (8 * q + b) ≡ bit_of (word64 t (at + k * (8 * len) + b * len)) (8 * q + r)
 
 pub turned-words : (t v v' : List ℕ) (len at k from : ℕ) → from ≡ at + k * (8 * len) → v ≡ column_words t len from → WeightsTurned v v'
-    → (r : ℕ) → r < 8 → Turned t len at k r (get_or v' r 0)
+    → (r : ℕ) → r < 8 → TurnedWord t len at k r (get_or v' r 0)
 turned-words t v v' len at k from e words turned r hr q b hq hb =
     turned q r b hq hr hb
     ∙ ap (λ (y : ℕ). bit_of y (8 * q + r))
     (ap (λ (l : List ℕ). get_or l b 0) words ∙ tabulate-at 8 (λ b. word64 t (from + b * len)) b hb ∙ ap (λ (p : ℕ). word64 t (p + b * len)) e)
 
 -- all of them are gathered: bytes and weights are the places of rows and columns
-pub gathered : (t w : List ℕ) (len at : ℕ) → Bytes t → at + 8 ≤ len → ((k r : ℕ) → k < 16 → r < 8 → Turned t len at k r (get_or w (16 * r + k) 0))
+pub gathered : (t w : List ℕ) (len at : ℕ) → Bytes t → at + 8 ≤ len → ((k r : ℕ) → k < 16 → r < 8 → TurnedWord t len at k r (get_or w (16 * r + k) 0))
     → Gathered len t at w
 gathered t w len at small fits turned j c q r k b hq hr hk hb row column =
     let x : ℕ = at + k * (8 * len) + b * len in

@@ -77,9 +77,6 @@ word_same l u v x h hx e = get_or-set_same l u v 0 (omega arith)
 word-other : (l : List ℕ) (u v u' x : ℕ) → u < 128 → x < 1 → length l ≡ 128 → (u' ≡ u → ⊥) → get_or (set l u v) u' 0 ≡ get_or l u' 0
 word-other l u v u' x h hx e ne = get_or-set_other l u u' v 0 ne
 
-pub words-length : (n : ℕ) (w : List ℕ) (i : ℕ) (v : List ℕ) → n ≤ 8 → i < 16 → length w ≡ 128 → length (stores set n w i v) ≡ 128
-words-length = stores-length set 128 1 (λ u x. u) (λ v x. v) word_kept word_same word-other
-
 pub words_more : (P : (k c y : ℕ) → Type 0) (w w' : List ℕ) (i : ℕ) (v : List ℕ) → i < 16 → length w ≡ 128 → w' ≡ stores set 8 w i v
     → ((c : ℕ) → c < 8 → P i c (get_or v c 0))
     → ((k c : ℕ) → k < i → c < 8 → P k c (get_or w (16 * c + k) 0))
@@ -103,9 +100,6 @@ bytes-other l u v u' x h hx e ne = here (dec_lt u' u)
     here : Dec (u' < u) → get_or (store_bytes l u v) (8 * u' + x) 0 ≡ get_or l (8 * u' + x) 0
     here (yes b) = put-before l (8 * u) (bytes 8 v) (omega arith) (8 * u' + x) (omega arith)
     here (no b) = put-after l (8 * u) (bytes 8 v) (omega arith) (8 * u' + x) (omega arith)
-
-pub bytes-length : (n : ℕ) (l : List ℕ) (i : ℕ) (v : List ℕ) → n ≤ 8 → i < 16 → length l ≡ 1024 → length (stores store_bytes n l i v) ≡ 1024
-bytes-length = stores-length store_bytes 1024 8 (λ u x. 8 * u + x) (λ v x. get_or (bytes 8 v) x 0) bytes-kept bytes_same bytes-other
 
 pub bytes-more : (P : (k c x y : ℕ) → Type 0) (l l' : List ℕ) (i : ℕ) (v : List ℕ) → i < 16 → length l ≡ 1024
     → l' ≡ stores store_bytes 8 l i v

@@ -3,7 +3,7 @@ use mathlib.Core.Path.{◌≡◌, refl, sym, ap, ap₂, ◌∙◌}
 use mathlib.Core.Bool.{true}
 use mathlib.Core.List.{List, [], ◌∷◌}
 use Prim.Native.Nat.{ℕ, ◌+◌, ◌-◌, ◌*◌, ◌/◌, ◌%◌, ◌^◌, ◌≤◌, ◌<◌}
-use native.Mathlib.Nat.{mul-one, mul-zero, add-mul-div_right}
+use native.Mathlib.Nat.{mul-one, mul-zero, mul_comm, mul_assoc, add-mul, add-mul-div_right, div-div-eq-div-mul}
 use native.Mathlib.Omega.{arith}
 use native.Mathlib.Decide.{dec_lt}
 use lib.Bits.{bit_xor, bit_and, xor_comm, xor_zero_r}
@@ -13,10 +13,11 @@ use lib.ListN.{get_or}
 use Rattle.words.specs.Bytes.{every}
 use Rattle.words.specs.Bits.{bit_of}
 use Rattle.words.specs.Xor.{◌⊕◌}
+use Rattle.words.proofs.Below.{below}
 use Rattle.words.proofs.Xor.{digit, bit-xor, xor-cancel}
 use Rattle.words.proofs.Shifts.{bit-and, bit-shr, bit-shl, bit-shl-low}
 use Rattle.words.proofs.Lists.{every_of}
-use Rattle.rows.specs.Gather.{Evens, Swapped, Staged, WeightsTurned, BytesTurned}
+use Rattle.rows.specs.Gather.{Evens, Swapped, Staged, Turned, WeightsTurned, BytesTurned}
 
 -- ---- two words
 
@@ -172,21 +173,63 @@ module _ (s4 s2 s1 y : ℕ) (v0 v1 v2 v3 : List ℕ) (by4 : Staged s4 v0 v1) (by
       ∙ digits (i / 4) (i / 2 % 2) (i % 2) (b / 4) (b / 2 % 2) (b % 2) (omega arith) (omega arith) (omega arith) (omega arith) (omega arith) (omega arith)
       ∙ ap (λ (n : ℕ). bit_of (get_or v0 n 0) (bit_number i)) back
 
--- weights: the digits are those of the weight's exponent, in a byte
-pub weights-turned : (v0 v1 v2 v3 : List ℕ) → Staged 4 v0 v1 → Staged 2 v1 v2 → Staged 1 v2 v3 → WeightsTurned v0 v3
-weights-turned v0 v1 v2 v3 by4 by2 by1 q r b hq hr hb =
-    let place : (n : ℕ) → n < 8 → 8 * q + n / 4 * 4 + n / 2 % 2 * 2 + n % 2 * 1 ≡ 8 * q + n = λ n h. omega arith in
-    ap (bit_of (get_or v3 r 0)) (sym (place b hb))
-    ∙ turned 4 2 1 (8 * q) v0 v1 v2 v3 by4 by2 by1 (omega arith) (λ d e hd he. omega arith) (λ d e hd he. omega arith) (λ d e hd he. omega arith) r b hr hb
-    ∙ ap (bit_of (get_or v0 b 0)) (place r hr)
+-- a bit n units on, divided by c units
+units-on : (u y n c : ℕ) → 0 < u → (y + n * u) / (c * u) ≡ (y / u + n) / c
+units-on u y n c pos =
+    ap (λ (m : ℕ). (y + n * u) / m) (mul_comm c u)
+    ∙ sym (div-div-eq-div-mul (y + n * u) u c)
+    ∙ ap (λ (x : ℕ). x / c) (add-mul-div_right y n pos)
 
--- bytes: they are those of the byte, in a word
-pub bytes-turned : (v0 v1 v2 v3 : List ℕ) → Staged 32 v0 v1 → Staged 16 v1 v2 → Staged 8 v2 v3 → BytesTurned v0 v3
-bytes-turned v0 v1 v2 v3 by4 by2 by1 q k b hq hk hb =
-    let place : (n : ℕ) → n < 8 → b + n / 4 * 32 + n / 2 % 2 * 16 + n % 2 * 8 ≡ 8 * n + b = λ n h. omega arith in
-    ap (bit_of (get_or v3 q 0)) (sym (place k hk))
-    ∙ turned 32 16 8 b v0 v1 v2 v3 by4 by2 by1 (omega arith) (λ d e hd he. omega arith) (λ d e hd he. omega arith) (λ d e hd he. omega arith) q k hq hk
-    ∙ ap (bit_of (get_or v0 k 0)) (place q hq)
+-- three stages, of four units, two and one
+pub turned-stages : (u : ℕ) (v0 v1 v2 v3 : List ℕ) → 0 < u → Staged (4 * u) v0 v1 → Staged (2 * u) v1 v2 → Staged u v2 v3 → Turned u v0 v3
+turned-stages u v0 v1 v2 v3 pos by4 by2 by1 y i b fits none hi hb =
+    ap (bit_of (get_or v3 i 0)) (sym (place b hb))
+    ∙ turned (4 * u) (2 * u) u y v0 v1 v2 v3 by4 by2 by1 (omega arith) even4 even2 even1 i b hi hb
+    ∙ ap (bit_of (get_or v0 b 0)) (place i hi)
+  where
+    place : (n : ℕ) → n < 8 → y + n / 4 * (4 * u) + n / 2 % 2 * (2 * u) + n % 2 * u ≡ y + n * u
+    place =
+        below (λ (n : ℕ). y + n / 4 * (4 * u) + n / 2 % 2 * (2 * u) + n % 2 * u ≡ y + n * u) 8
+        ((((((((tt, omega arith), omega arith), omega arith), omega arith), omega arith), omega arith), omega arith), omega arith)
+
+    -- digits d and e that stand m and n units on
+    two : (m n d e : ℕ) → d < 2 → e < 2 → y + d * (m * u) + e * (n * u) ≡ y + (d * m + e * n) * u
+    two m n d e hd he =
+        omega (arith, mul_assoc d m u, mul_assoc e n u, add-mul (d * m) (e * n) u)
+
+    even : (c m n d e : ℕ) → d < 2 → e < 2 → (y + d * (m * u) + e * (n * u)) / (c * u) ≡ (y / u + (d * m + e * n)) / c
+    even c m n d e hd he = ap (λ (x : ℕ). x / (c * u)) (two m n d e hd he) ∙ units-on u y (d * m + e * n) c pos
+
+    one : 1 * u ≡ u
+    one = omega arith
+
+    even4 : (d e : ℕ) → d < 2 → e < 2 → (y + d * (2 * u) + e * u) / (4 * u) % 2 ≡ 0
+    even4 d e hd he =
+        ap (λ (x : ℕ). (y + d * (2 * u) + e * x) / (4 * u) % 2) (sym one) ∙ ap (λ (x : ℕ). x % 2) (even 4 2 1 d e hd he) ∙ omega arith
+
+    even2 : (d e : ℕ) → d < 2 → e < 2 → (y + d * (4 * u) + e * u) / (2 * u) % 2 ≡ 0
+    even2 d e hd he =
+        ap (λ (x : ℕ). (y + d * (4 * u) + e * x) / (2 * u) % 2) (sym one) ∙ ap (λ (x : ℕ). x % 2) (even 2 4 1 d e hd he) ∙ omega arith
+
+    even1 : (d e : ℕ) → d < 2 → e < 2 → (y + d * (4 * u) + e * (2 * u)) / u % 2 ≡ 0
+    even1 d e hd he =
+        ap (λ (x : ℕ). (y + d * (4 * u) + e * (2 * u)) / x % 2) (sym one) ∙ ap (λ (x : ℕ). x % 2) (even 1 4 2 d e hd he) ∙ omega arith
+
+-- of unit 1: the digits are those of the weight's exponent, in a byte
+pub weights-turned : (v v' : List ℕ) → Turned 1 v v' → WeightsTurned v v'
+weights-turned v v' turned q r b hq hr hb =
+    let place : (n : ℕ) → 8 * q + n * 1 ≡ 8 * q + n = λ n. omega arith in
+    ap (bit_of (get_or v' r 0)) (sym (place b))
+    ∙ turned (8 * q) r b (omega arith) (omega arith) hr hb
+    ∙ ap (bit_of (get_or v b 0)) (place r)
+
+-- of unit 8: they are those of the byte, in a word
+pub bytes-turned : (v v' : List ℕ) → Turned 8 v v' → BytesTurned v v'
+bytes-turned v v' turned q k b hq hk hb =
+    let place : (n : ℕ) → b + n * 8 ≡ 8 * n + b = λ n. omega arith in
+    ap (bit_of (get_or v' q 0)) (sym (place k))
+    ∙ turned b q k (omega arith) (omega arith) hq hk
+    ∙ ap (bit_of (get_or v k 0)) (place q)
 
 -- ---- the masks
 

@@ -4,12 +4,26 @@
 // Eight such words change bits with each other, by shifts and masks, until rows stand where columns stood: first weights, then bytes.
 #![tactic(auto)]
 
-ghost use Rattle.std.specs.Prelude.{◌≡◌, [], ◌∷◌, ℕ, ◌+◌, ◌*◌, ◌≤◌, ◌<◌, length, set};
+ghost use Rattle.std.specs.Prelude.{◌≡◌, [], ◌∷◌, ℕ, ◌+◌, ◌*◌, ◌≤◌, ◌<◌, length, set, get_or};
 ghost use Rattle.words.specs.Bytes.{concat};
 ghost use Rattle.sizes.specs.Sizes.{columns};
 ghost use Rattle.rows.specs.Row.{row_of};
 ghost use Rattle.rows.specs.Place.{Stands};
-ghost use Rattle.rows.specs.Gather.{Evens, Swapped, Staged, WeightsTurned, BytesTurned, column_words, side_by_side, stores, store_bytes, Gathered, RowsLaid};
+ghost use Rattle.rows.specs.Gather.{Evens, Swapped, Staged, Turned, column_words, side_by_side, stores, store_bytes, Gathered, RowsLaid};
+
+// The masks of a turn whose digits are those of a weight's exponent: words of eight columns become words of rows of eight weights.
+const WEIGHTS: [u64; 3] = [
+    0x0f0f_0f0f_0f0f_0f0f,
+    0x3333_3333_3333_3333,
+    0x5555_5555_5555_5555,
+];
+
+// And of one whose digits are those of a byte's number in its word.
+const BYTES: [u64; 3] = [
+    0x0000_0000_ffff_ffff,
+    0x0000_ffff_0000_ffff,
+    0x00ff_00ff_00ff_00ff,
+];
 
 // Two words that changed bits.
 #[derive(Clone, Copy)]
@@ -44,23 +58,15 @@ fn stage(v: [u64; 8], s: u32, mask: u64) -> [u64; 8]
     ]
 }
 
-// From words of eight columns to words of rows of eight weights: the columns' weights and the rows' weights change places. A stage for each
-// bit of a weight's exponent.
-fn turn_weights(v: [u64; 8]) -> [u64; 8]
-    ensures { WeightsTurned v result }
+// Eight words: their numbers and three digits of the numbers of their bits change places, in a stage for each digit. The last digit moves a bit
+// by `unit`; a mask has the bits at which its digit is 0.
+fn turn(v: [u64; 8], unit: u32, masks: [u64; 3]) -> [u64; 8]
+    requires { (0 < unit) × (unit < 16) × Evens (4 * unit) (get_or masks 0 0) × Evens (2 * unit) (get_or masks 1 0) × Evens unit (get_or masks 2 0) }
+    ensures { Turned unit v result }
 {
-    let by4 = stage(v, 4, 0x0f0f_0f0f_0f0f_0f0f);
-    let by2 = stage(by4, 2, 0x3333_3333_3333_3333);
-    stage(by2, 1, 0x5555_5555_5555_5555)
-}
-
-// The same of eight words and their bytes.
-fn turn_bytes(v: [u64; 8]) -> [u64; 8]
-    ensures { BytesTurned v result }
-{
-    let by4 = stage(v, 32, 0x0000_0000_ffff_ffff);
-    let by2 = stage(by4, 16, 0x0000_ffff_0000_ffff);
-    stage(by2, 8, 0x00ff_00ff_00ff_00ff)
+    let by4 = stage(v, 4 * unit, masks[0]);
+    let by2 = stage(by4, 2 * unit, masks[1]);
+    stage(by2, unit, masks[2])
 }
 
 // A word of each of the eight columns that share a byte of a row value, from a place of the first on. From weight to weight that place is
@@ -71,11 +77,9 @@ fn column_words(table: &[u8], len: usize, first: usize) -> [u64; 8]
 {
     let mut v = [0u64; 8];
     let mut from = first;
-    let mut weight: usize = 0;
-    while weight < 8 {
+    for weight in 0..8 {
         v[weight] = words::load64(table, from);
-        from = from + len;
-        weight += 1;
+        from += len;
     }
     v
 }
@@ -85,10 +89,8 @@ fn put_words(w: &mut [u64; 128], i: usize, v: [u64; 8])
     requires { i < 16 }
     ensures { w.new ≡ stores set 8 w.old i v }
 {
-    let mut c: usize = 0;
-    while c < 8 {
+    for c in 0..8 {
         w[16 * c + i] = v[c];
-        c += 1;
     }
 }
 
@@ -99,11 +101,9 @@ fn gather(len: usize, table: &[u8], at: usize, w: &mut [u64; 128])
     ensures { Gathered len table.now at w.new }
 {
     let mut from = at;
-    let mut byte: usize = 0;
-    while byte < 16 {
-        put_words(w, byte, turn_weights(column_words(table, len, from)));
-        from = from + 8 * len;
-        byte += 1;
+    for byte in 0..16 {
+        put_words(w, byte, turn(column_words(table, len, from), 1, WEIGHTS));
+        from += 8 * len;
     }
 }
 
@@ -129,10 +129,8 @@ fn put_bytes(rows: &mut [u8], i: usize, v: [u64; 8])
     requires { (i < 16) × (length rows.old ≡ 1024) }
     ensures { rows.new ≡ stores store_bytes 8 rows.old i v }
 {
-    let mut c: usize = 0;
-    while c < 8 {
+    for c in 0..8 {
         words::store64(rows, 8 * (16 * c + i), v[c]);
-        c += 1;
     }
 }
 
@@ -142,10 +140,8 @@ fn lay(w: &[u64; 128], rows: &mut [u8])
     requires { length rows.old ≡ 1024 }
     ensures { RowsLaid w.now rows.new }
 {
-    let mut i: usize = 0;
-    while i < 16 {
-        put_bytes(rows, i, turn_bytes(eight_words(w, 8 * i)));
-        i += 1;
+    for i in 0..16 {
+        put_bytes(rows, i, turn(eight_words(w, 8 * i), 8, BYTES));
     }
 }
 
