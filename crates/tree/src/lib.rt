@@ -3,16 +3,40 @@
 
 pub mod side;
 
-ghost use Rattle.std.specs.Prelude.{◌≡◌, ◌+◌, ◌*◌, ◌%◌, ◌<◌, ◌≤◌, length, slice_index};
+ghost use Rattle.std.specs.Prelude.{◌≡◌, true, ◌+◌, ◌*◌, ◌%◌, ◌<◌, ◌≤◌, length, slice_index};
 ghost use Rattle.words.specs.Bytes.{part};
 ghost use Rattle.words.specs.Xor.{xor_each, xor_part};
 ghost use Rattle.tree.specs.WalkWords.{total_word, u_word, column_word};
 ghost use Rattle.tree.specs.Streams.{block_word, word_of};
+ghost use Rattle.tree.specs.Sides.{TreesFit};
+ghost use Rattle.sizes.specs.Sizes.{width_allowed, trees_of};
 
 // What a leaf's stream is drawn by: the number of the batch.
 #[derive(Clone, Copy)]
 pub struct Stream {
     pub batch: u64,
+}
+
+// Paper 01's trees: n of k levels.
+#[derive(Clone, Copy)]
+pub struct Trees {
+    pub n: usize,
+    pub k: usize,
+    pub ghost fit: { TreesFit n k },
+}
+
+impl Trees {
+    // Those of an allowed width.
+    pub fn of(width: u32) -> Trees
+        requires { width_allowed width ≡ true }
+        ensures n { result.n ≡ trees_of width }
+        ensures k { result.k ≡ width }
+    {
+        Trees {
+            n: sizes::trees_of(width),
+            k: width as usize,
+        }
+    }
 }
 
 // The four nodes at a place of s: in four blocks the left children stand at 0, the right ones at 32.
