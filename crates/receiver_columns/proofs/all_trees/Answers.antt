@@ -1,4 +1,4 @@
--- The first i trees are stored, and then four more.
+-- Four trees more each turn.
 use Rattle.std.proofs.Common.{◌≡◌, ℕ, ◌+◌, ◌-◌, ◌*◌, ◌≤◌, ◌++◌, refl, ap, ◌∙◌, arith}
 use native.Mathlib.Nat.{add-mul, mul-le-mul_right}
 use lib.ListN.{length-append}
@@ -10,36 +10,36 @@ use Rattle.tree.specs.Streams.{byte_of}
 use Rattle.tree.proofs.TreesFit.{few-trees, four-fit}
 use Rattle.columns.specs.Columns.{u_of, table_of, receiver_column, receiver_table}
 use Rattle.receiver_columns.proofs.Starts.{u-length, columns-length, roots-from, laid-put}
-use Rattle.receiver_columns.proofs.trees.Goals as goal
+use Rattle.receiver_columns.proofs.all_trees.Goals as goal
 
-pub loop-i-init : goal.loop-i-init
-loop-i-init c =
-    let n = c.args.n in
+pub loop-q-init : goal.loop-q-init
+loop-q-init c =
+    let n = c.args.trees.n in
     let len = c.args.len in
     let fits = c.requires.start_fits in
-    let some : n ≡ 1 + (n - 1) = omega (arith, fits.trees.some) in
+    let some : n ≡ 1 + (n - 1) = omega (arith, c.args.trees.fit.some) in
     let all : len + (n - 1) * len ≡ n * len = omega (arith, ap (λ (j : ℕ). j * len) some, add-mul 1 (n - 1) len) in
     record {
-      fours = refl;
       u-long = refl;
       v-long = refl;
       choices-long = refl;
       correction-long = refl;
       sums = laid_none n len _ _ (length-append c.args.choices.now c.args.correction.now ∙ omega (arith, fits.choices-long, fits.correction-long, all));
-      columns = laid_none n (c.args.k * len) _ _ fits.table-long;
+      columns = laid_none n (c.args.trees.k * len) _ _ fits.table-long;
     }
 
 pub four_trees-requires-clause-four_start_fits : goal.four_trees-requires-clause-four_start_fits
 four_trees-requires-clause-four_start_fits c =
     let s = c.args in
-    let w = c.loop-i in
+    let w = c.loop-q in
     let fits = c.requires.start_fits in
-    let i = w.i in
-    let size : ℕ = s.k * s.len in
-    let few = few-trees s.n s.k fits.trees in
-    let nodes = four-fit s.n i fits.trees.fours w.invariant.fours c.loop-i-test.true 32 in
-    let table = four-fit s.n i fits.trees.fours w.invariant.fours c.loop-i-test.true size in
-    let next : i + 3 ≤ s.n - 1 = omega (arith, nodes.0) in
+    let n = s.trees.n in
+    let i : ℕ = 4 * w.q in
+    let size : ℕ = s.trees.k * s.len in
+    let few = few-trees n s.trees.k s.trees.fit in
+    let nodes = four-fit n i s.trees.fit.fours (omega arith) (omega arith) 32 in
+    let table = four-fit n i s.trees.fit.fours (omega arith) (omega arith) size in
+    let next : i + 3 ≤ n - 1 = omega (arith, nodes.0) in
     record {
       early = omega (arith, few, nodes.0);
       roots-long = mid_len (i * 32) ((i + 4) * 32) s.roots.now (omega (arith, nodes, fits.roots-long)) ∙ omega arith;
@@ -48,32 +48,34 @@ four_trees-requires-clause-four_start_fits c =
       table-long = mid_len (i * size) ((i + 4) * size) w.table (omega (arith, table, w.invariant.columns.len)) ∙ omega (arith, table);
     }
 
-pub loop-i-preserved : goal.loop-i-preserved
-loop-i-preserved c =
+pub loop-q-preserved : goal.loop-q-preserved
+loop-q-preserved c =
     let s = c.args in
-    let w = c.loop-i in
+    let w = c.loop-q in
     let call = c.four_trees in
-    let next = (four-fit s.n w.i c.requires.start_fits.trees.fours w.invariant.fours c.loop-i-test.true 1).0 in
-    let k = s.k in
-    let n = s.n in
+    let k = s.trees.k in
+    let n = s.trees.n in
+    let i : ℕ = 4 * w.q in
+    let all : i + 4 ≤ n = omega (arith, s.trees.fit.fours) in
+    let next : i + 4 ≡ 4 * (w.q + 1) = omega arith in
     let len = s.len in
     let stream = byte_of s.stream in
     let roots = s.roots.now in
-    record {
-      fours = omega (arith, w.invariant.fours);
+    rw (← next)
+    (record {
       u-long = call.auto.u ∙ w.invariant.u-long;
       v-long = call.auto.v ∙ w.invariant.v-long;
       choices-long = call.auto.choices ∙ w.invariant.choices-long;
       correction-long = call.auto.correction ∙ w.invariant.correction-long;
-      sums = laid-put n len (λ j. u_of k stream len (root_of roots j)) w.i 4 (w.choices ++ w.correction) _ _
-          (roots-from (u_of k stream len) w.i roots) (λ j h. u-length k stream len (root_of roots j)) next call.ensures.correction_after w.invariant.sums;
-      columns = laid_more n (k * len) (λ j. concat k (receiver_column k stream len (root_of roots j))) w.i 4 w.table _
-          (call.ensures.table_after ∙ roots-from (λ r. concat k (receiver_column k stream len r)) w.i roots)
-          (λ j h. columns-length k stream len (root_of roots j)) next w.invariant.columns;
-    }
+      sums = laid-put n len (λ j. u_of k stream len (root_of roots j)) i 4 (w.choices ++ w.correction) _ _
+          (roots-from (u_of k stream len) i roots) (λ j h. u-length k stream len (root_of roots j)) all call.ensures.correction_after w.invariant.sums;
+      columns = laid_more n (k * len) (λ j. concat k (receiver_column k stream len (root_of roots j))) i 4 w.table _
+          (call.ensures.table_after ∙ roots-from (λ r. concat k (receiver_column k stream len r)) i roots)
+          (λ j h. columns-length k stream len (root_of roots j)) all w.invariant.columns;
+    })
 
 pub returns-clause-table_after : goal.returns-clause-table_after
 unfolding receiver_table table_of
 returns-clause-table_after c =
-    let w = c.loop-i in
-    laid-all c.args.n (c.args.k * c.args.len) _ w.i w.table (omega arith) w.invariant.columns
+    let w = c.loop-q in
+    laid-all c.args.trees.n (c.args.trees.k * c.args.len) _ (4 * w.q) w.table (omega (arith, c.args.trees.fit.fours)) w.invariant.columns
