@@ -7,6 +7,7 @@ mod sender;
 ghost use Rattle.setup.specs.Setup.{ReceiverSetup, SenderSetup};
 
 use answer::Answer;
+use tree::Trees;
 
 // The receiver's setup: the totals of its trees, masked by the base pads.
 pub fn receiver_setup(width: u32, roots: &[u8], base_pads: &[u8], message: &mut [u8]) -> Answer
@@ -14,8 +15,7 @@ pub fn receiver_setup(width: u32, roots: &[u8], base_pads: &[u8], message: &mut 
 {
     let answer = orders::receiver_setup(width, roots.len(), base_pads.len(), message.len());
     if answer::is_done(answer) {
-        let n = sizes::trees_of(width);
-        receiver::write_message(n, width as usize, roots, base_pads, message);
+        receiver::write_message(Trees::of(width), roots, base_pads, message);
     }
     answer
 }
@@ -38,8 +38,7 @@ pub fn sender_setup(
         siblings.len(),
     );
     if answer::is_done(answer) {
-        let n = sizes::trees_of(width);
-        sender::find_siblings(n, width as usize, delta, base_pads, message, siblings);
+        sender::find_siblings(Trees::of(width), delta, base_pads, message, siblings);
     }
     answer
 }
