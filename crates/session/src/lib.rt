@@ -8,7 +8,7 @@ ghost use Rattle.session.specs.Steps.{OpenSession, ReceiverStart, SenderCorrect,
 
 use answer::Refusal;
 use rules::Record;
-use tree::Stream;
+use tree::{Stream, Trees};
 
 // What a step gives back: its answer, and the record after it. The record comes with a refusal too, since a failed check closes it.
 #[derive(Clone, Copy)]
@@ -22,7 +22,11 @@ pub fn open(r: Record, width: u32) -> Stepped
     ensures { OpenSession r width result.answer result.record }
 {
     let answer = orders::open_session(width);
-    let record = if answer.is_ok() { Record::new(width) } else { r };
+    let record = if answer.is_ok() {
+        Record::new(width)
+    } else {
+        r
+    };
     Stepped { answer, record }
 }
 
@@ -57,16 +61,8 @@ pub fn receiver_start(
     if answer.is_err() {
         return Stepped { answer, record: r };
     }
-    let n = sizes::trees_of(r.width);
-    receiver_columns::start(
-        n,
-        r.width as usize,
-        stream_of(batch),
-        roots,
-        choices,
-        table,
-        correction,
-    );
+    let trees = Trees::of(r.width);
+    receiver_columns::start(trees, stream_of(batch), roots, choices, table, correction);
     let record = r.with_batch(batch, blocks);
     Stepped { answer, record }
 }
