@@ -1,12 +1,6 @@
 -- Four messages of 32 bytes side by side. Assumes nothing.
-use mathlib.Core.Path.{◌≡◌, refl, sym, ap, ap₂, ◌∙◌}
-use mathlib.Core.List.{List, ◌++◌}
-use Prim.Native.Nat.{ℕ, ◌+◌, ◌-◌, ◌*◌, ◌/◌, ◌%◌, ◌<◌, ◌≤◌}
-use native.Mathlib.Nat.{mul_comm}
-use native.Mathlib.Numerals.{add-one}
-use native.Mathlib.Omega.{arith}
-use lib.ListN.{length, get_or, drop, length-append, length-drop, get_or-append}
-use lib.Seq.{get_or-take, get_or-drop, get_or-append-add, length-take-le, take_all}
+use Rattle.std.proofs.Common.{◌≡◌, refl, sym, ap, ap₂, ◌∙◌, List, ◌++◌, ℕ, ◌+◌, ◌-◌, ◌*◌, ◌/◌, ◌%◌, ◌<◌, ◌≤◌, mul_comm, add-one, arith, length, get_or, drop, length-append, length-drop, get_or-take, get_or-drop, get_or-append-add, length-take-le, take_all}
+use Rattle.std.proofs.Math.ListN.{get_or-append}
 use Rattle.words.specs.Bytes.{put, concat}
 use Rattle.words.specs.Lanes.{lane, laned}
 use Rattle.words.proofs.Concat.{concat-same, concat-length}

@@ -1,5 +1,4 @@
-use Rattle.std.proofs.Common.{◌≡◌, ℕ, ◌-◌, ◌/◌, List, length, take, sym, ap, ap₂, ◌∙◌}
-use lib.Seq.{take_at}
+use Rattle.std.proofs.Common.{◌≡◌, ℕ, ◌-◌, ◌/◌, List, length, take, take_at, sym, ap, ap₂, ◌∙◌}
 use Rattle.sha256.specs.Sha.{zeros, hashed, work_bytes}
 use Rattle.sha256.specs.declared.Work.{Work}
 use Rattle.sha256.specs.Pieces.{rest_of, rest_length}
