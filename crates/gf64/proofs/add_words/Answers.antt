@@ -1,4 +1,4 @@
-use Rattle.std.proofs.Common.{ℕ, ◌+◌, ◌*◌, get_or, set, ap, ◌∙◌, ap₂, arith, length-set, get_or-set_other}
+use Rattle.std.proofs.Common.{ℕ, ◌+◌, ◌*◌, get_or, set, ap, ◌∙◌, ap₂, arith, get_or-set_other}
 use lib.Bits.{bit_xor}
 use Rattle.words.specs.Xor.{◌⊕◌}
 use Rattle.gf64.specs.Table.{joined, word_in}
@@ -14,12 +14,9 @@ loop-k-preserved c =
     let p : ℕ = h.k * a.len + a.at in
     let x : ℕ = get_or h.r h.k 0 ⊕ lo.result in
     let y : ℕ = (get_or (set h.r h.k x) (4 + h.k) 0 ⊕ hi.result) in
-    record {
-      long = length-set (set h.r h.k x) (4 + h.k) y ∙ length-set h.r h.k x ∙ h.invariant.long;
-      added = added_more _ h.k x y a.r.now h.r h.invariant.long c.loop-k-test.true
-          (ap (λ (z : ℕ). joined x (z ⊕ hi.result)) (get_or-set_other h.r h.k (4 + h.k) x 0 (λ q. omega arith))
-          ∙ joined-xor (get_or h.r h.k 0) (get_or h.r (4 + h.k) 0) lo.result hi.result
-          ∙ ap (bit_xor (word_in h.r h.k))
-          (ap₂ joined lo.ensures hi.ensures ∙ joined-word64 a.s.now p (omega (arith, lo.type_inv, lo.ensures))))
-          h.invariant.added;
-    }
+    added_more _ h.k x y a.r.now h.r (omega arith) c.loop-k-test.true
+    (ap (λ (z : ℕ). joined x (z ⊕ hi.result)) (get_or-set_other h.r h.k (4 + h.k) x 0 (λ q. omega arith))
+    ∙ joined-xor (get_or h.r h.k 0) (get_or h.r (4 + h.k) 0) lo.result hi.result
+    ∙ ap (bit_xor (word_in h.r h.k))
+    (ap₂ joined lo.ensures hi.ensures ∙ joined-word64 a.s.now p (omega (arith, lo.type_inv, lo.ensures))))
+    h.invariant

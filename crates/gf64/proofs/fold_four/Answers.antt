@@ -14,7 +14,7 @@ loop-j-preserved c =
     λ g k tab hk.
     let at : ℕ = k * len + 8 * h.j in
     more-word g (word_in h.acc k) _ (len / 8 - h.j) (len / 8 - (h.j + 1)) at (k * len + 8 * (h.j + 1)) s (omega arith) (omega arith)
-    (c.add_words.ensures k hk ∙ ap (λ (z : ℕ). z ⊕ word64 s at) (c.products-r.ensures.1 g k tab hk))
+    (c.add_words.ensures k hk ∙ ap (λ (z : ℕ). z ⊕ word64 s at) (c.products-r.ensures g k tab hk))
     ∙ h.invariant g k tab hk
 
 pub returns : goal.returns

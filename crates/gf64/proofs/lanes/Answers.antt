@@ -1,4 +1,4 @@
-use Rattle.std.proofs.Common.{◌≡◌, ℕ, ◌+◌, ◌*◌, ◌/◌, get_or, set, ap, ◌∙◌, arith, length-set}
+use Rattle.std.proofs.Common.{◌≡◌, ℕ, ◌+◌, ◌*◌, ◌/◌, get_or, ap, ◌∙◌, arith}
 use lib.Bits.{bit_xor}
 use Rattle.gf64.specs.Table.{word_in, power}
 use Rattle.gf64.proofs.Four.{half-bits, added_more}
@@ -12,14 +12,11 @@ loop-l-preserved c =
     let y = c.sixteen-lo.result.1 in
     let w = a.a.now in
     let at = a.i / 32 * 4 + h.l in
-    record {
-      long = length-set (set h.r h.l x) (4 + h.l) y ∙ length-set h.r h.l x ∙ h.invariant.long;
-      added = λ g tab.
-          added_more _ h.l x y a.r.now h.r h.invariant.long c.loop-l-test.true
-          (c.sixteen-lo.ensures g tab
-          ∙ ap (bit_xor (word_in h.r h.l))
-          (half-bits (power a.i g) (get_or w h.l 0) (get_or w (4 + h.l) 0) a.i (get_or w at 0) (omega arith) c.requires.1
-          (λ low. let e : at ≡ h.l = omega arith in ap (λ (k : ℕ). get_or w k 0) e)
-          (λ high. let e : at ≡ 4 + h.l = omega arith in ap (λ (k : ℕ). get_or w k 0) e)))
-          (h.invariant.added g tab);
-    }
+    λ g tab.
+    added_more _ h.l x y a.r.now h.r (omega arith) c.loop-l-test.true
+    (c.sixteen-lo.ensures g tab
+    ∙ ap (bit_xor (word_in h.r h.l))
+    (half-bits (power a.i g) (get_or w h.l 0) (get_or w (4 + h.l) 0) a.i (get_or w at 0) (omega arith) c.requires.1
+    (λ low. let e : at ≡ h.l = omega arith in ap (λ (k : ℕ). get_or w k 0) e)
+    (λ high. let e : at ≡ 4 + h.l = omega arith in ap (λ (k : ℕ). get_or w k 0) e)))
+    (h.invariant g tab)

@@ -1,4 +1,4 @@
-use Rattle.std.proofs.Common.{◌≡◌, ℕ, ◌+◌, ◌*◌, ◌/◌, ◌^◌, sym, refl, ap, ◌∙◌, arith}
+use Rattle.std.proofs.Common.{◌≡◌, ℕ, ◌+◌, ◌*◌, ◌/◌, ◌^◌, sym, ap, ◌∙◌, arith}
 use Rattle.words.specs.Xor.{◌⊕◌}
 use Rattle.gf64.specs.Field.{times_low}
 use Rattle.gf64.specs.Table.{word_in, power}
@@ -7,19 +7,16 @@ use Rattle.gf64.proofs.products.Goals as goal
 
 pub loop-n-init : goal.loop-n-init
 unfolding times_low
-loop-n-init c = record { long = refl; made = λ g m tab hm. no_words m hm }
+loop-n-init c = λ g m tab hm. no_words m hm
 
 pub loop-n-preserved : goal.loop-n-preserved
 loop-n-preserved c =
     let h = c.loop-n in
     let i : ℕ = 16 * h.n in
     let next : i + 16 ≡ 16 * (h.n + 1) = omega arith in
-    record {
-      long = c.lanes.ensures.0;
-      made = λ g m tab hm.
-          let w = word_in c.args.a.now m in
-          c.lanes.ensures.1 g m tab hm
-          ∙ ap (λ (z : ℕ). z ⊕ times_low 16 (power i g) (w / 2 ^ i)) (h.invariant.made g m tab hm)
-          ∙ sym (times-split i 16 g w)
-          ∙ ap (λ (k : ℕ). times_low k g w) next;
-    }
+    λ g m tab hm.
+    let w = word_in c.args.a.now m in
+    c.lanes.ensures g m tab hm
+    ∙ ap (λ (z : ℕ). z ⊕ times_low 16 (power i g) (w / 2 ^ i)) (h.invariant g m tab hm)
+    ∙ sym (times-split i 16 g w)
+    ∙ ap (λ (k : ℕ). times_low k g w) next

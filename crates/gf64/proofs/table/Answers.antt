@@ -1,4 +1,4 @@
-use Rattle.std.proofs.Common.{◌≡◌, ℕ, suc, ◌+◌, ◌/◌, get_or, set, sym, refl, ap, ◌∙◌, not-suc-le-zero, arith, length-set, get_or-set_other, get_or-set_same, ext_get_or, rules, below_more}
+use Rattle.std.proofs.Common.{◌≡◌, ℕ, suc, ◌+◌, ◌/◌, get_or, set, refl, ap, ◌∙◌, not-suc-le-zero, arith, length-set, get_or-set_other, get_or-set_same, ext_get_or, below_more}
 use Rattle.gf64.specs.Field.{times_x}
 use Rattle.gf64.specs.Table.{power, key_table}
 use Rattle.gf64.proofs.Four.{power-up, key_rows-length, entry_at}
@@ -9,7 +9,6 @@ pub loop-m-init : goal.loop-m-init
 unfolding power
 loop-m-init c =
     record {
-      low = search rules;
       long = refl;
       power-is = refl;
       entries = λ e h. absurd (not-suc-le-zero h);
@@ -22,7 +21,6 @@ loop-m-preserved c =
     let more = c.loop-m-test.true in
     let x = c.half.result in
     record {
-      low = search rules;
       long = length-set h.t h.m x ∙ h.invariant.long;
       power-is = elim c.if-m-eq7.branch [
         | then-m-eq7 w ↦
@@ -34,11 +32,11 @@ loop-m-preserved c =
       ];
       entries = below_more (λ (e : ℕ). get_or (set h.t h.m x) e 0 ≡ get_or (key_table key) e 0) h.m
           (λ e l. get_or-set_other h.t h.m e x 0 (λ q. omega arith) ∙ h.invariant.entries e l)
-          (get_or-set_same h.t h.m x 0 (omega (arith, h.invariant.long, more)) ∙ c.half.ensures ∙ entry_at key h.m h.p more h.invariant.power-is);
+          (get_or-set_same h.t h.m x 0 (omega arith) ∙ c.half.ensures ∙ entry_at key h.m h.p more h.invariant.power-is);
     }
 
 pub returns : goal.returns
 returns c =
     let h = c.loop-m in
     let key = c.args.key in
-    ext_get_or 0 h.t (key_table key) (h.invariant.long ∙ sym (key_rows-length 64 key)) (λ e l. h.invariant.entries e (omega (arith, h.invariant.long, c.loop-m-test.false)))
+    ext_get_or 0 h.t (key_table key) (omega (arith, key_rows-length 64 key)) (λ e l. h.invariant.entries e (omega arith))
