@@ -13,7 +13,7 @@ loop-group-preserved g c =
     let a = c.args in
     let w = c.loop-group in
     values-more (p.made a.side.now) 4 g.row.SIZE 16 (g.met.P.Pads.sized a.side.now) w.group w.pads _
-    a.first _ a.values.now refl c.four.ensures (omega arith) w.invariant
+    a.first _ a.values.now refl c.make_four.ensures (omega arith) w.invariant
 
 pub returns : goal.returns
 returns g c = padded-all _ 4 g.row.SIZE 16 c.loop-group.group c.loop-group.pads (omega arith) c.loop-group.invariant
