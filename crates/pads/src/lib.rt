@@ -73,7 +73,7 @@ trait Pads<const SIZE: usize> {
     ghost made: { Self → ℕ → List ℕ → List ℕ };
 
     // Makes those of four rows.
-    fn four(&self, first: u32, values: &[u8], pads: &mut [u8])
+    fn make_four(&self, first: u32, values: &[u8], pads: &mut [u8])
         requires { ValuesFit 4 first values.now × (length pads.old ≡ 4 * SIZE) }
         ensures { pads.new ≡ of_values 4 (made self.now) first values.now };
 
@@ -91,7 +91,7 @@ struct Receiver {
 impl Pads<32> for Receiver {
     ghost made = { λ s. pad_of s.batch };
 
-    fn four(&self, first: u32, values: &[u8], pads: &mut [u8]) {
+    fn make_four(&self, first: u32, values: &[u8], pads: &mut [u8]) {
         four_pads(self.batch, first, values, pads);
     }
 
@@ -111,7 +111,7 @@ struct Sender<'a> {
 impl Pads<64> for Sender<'_> {
     ghost made = { λ s. pair_of s.batch s.delta.now };
 
-    fn four(&self, first: u32, values: &[u8], pads: &mut [u8]) {
+    fn make_four(&self, first: u32, values: &[u8], pads: &mut [u8]) {
         let mut shifted = [0u8; 64];
         words::copy_part(&mut shifted, 0, values);
         words::xor_parts(&mut shifted, 4, self.delta);
@@ -128,12 +128,9 @@ impl Pads<64> for Sender<'_> {
 }
 
 // The pads of the 64 rows of a block, four rows at a time.
-fn block_pads<const SIZE: usize, P: Pads<SIZE>>(
-    side: &P,
-    first: u32,
-    values: &[u8],
-    pads: &mut [u8],
-)
+fn block_pads<const SIZE: usize, P>(side: &P, first: u32, values: &[u8], pads: &mut [u8])
+where
+    P: Pads<SIZE>,
     requires { ValuesFit 64 first values.now × (length pads.old ≡ 16 * (4 * SIZE)) }
     ensures { pads.new ≡ of_values 64 (P.made side.now) first values.now }
 {
@@ -141,7 +138,7 @@ fn block_pads<const SIZE: usize, P: Pads<SIZE>>(
     for group in 0..GROUPS {
         let from = group * 64;
         let start = group * size;
-        side.four(
+        side.make_four(
             first + (4 * group) as u32,
             &values[from..from + 64],
             &mut pads[start..start + size],
@@ -151,12 +148,9 @@ fn block_pads<const SIZE: usize, P: Pads<SIZE>>(
 
 // The pads of all rows of a table but those of the spent block. From block to block the number of its first row and the byte at which that row
 // stands are carried along.
-fn table_pads<const SIZE: usize, P: Pads<SIZE>>(
-    side: &P,
-    blocks: usize,
-    table: &[u8],
-    pads: &mut [u8],
-)
+fn table_pads<const SIZE: usize, P>(side: &P, blocks: usize, table: &[u8], pads: &mut [u8])
+where
+    P: Pads<SIZE>,
     requires { (blocks ≤ 15) × (length table.now ≡ table_length blocks) × (length pads.old ≡ blocks * (64 * SIZE)) }
     ensures { pads.new ≡ concat (64 * blocks) (λ j. P.made side.now j (row_of columns (column_length blocks) table.now j)) }
 {

@@ -2,7 +2,7 @@
 use mathlib.Core.Path.{◌≡◌, refl, sym, ap, ◌∙◌}
 use mathlib.Core.List.{List}
 use Prim.Native.Nat.{ℕ, ◌+◌, ◌*◌, ◌/◌, ◌%◌, ◌≤◌, ◌<◌}
-use native.Mathlib.Nat.{add-mul, mul_assoc, mul_comm, mul-le-mul_right}
+use native.Mathlib.Nat.{add-mul, mul_assoc, mul_comm}
 use native.Mathlib.Omega.{arith}
 use lib.ListN.{length, get_or}
 use lib.Seq.{ext_get_or}
@@ -24,11 +24,6 @@ use Rattle.rows.proofs.Places.{stands, number_is, bit-there}
 
 pub step-on : (step at n : ℕ) → at + n * step + step ≡ at + (n + 1) * step
 step-on step at n = omega (arith, next_place n step)
-
-pub steps-within : (step at n m : ℕ) → n < m + 1 → at + n * step ≤ at + m * step
-steps-within step at n m h =
-    let upto : n ≤ m = omega arith in
-    omega (arith, mul-le-mul_right step upto)
 
 -- byte at + q of column 8k + b
 from_is : (len at k b q : ℕ) → at + k * (8 * len) + b * len + q ≡ (8 * k + b) * len + (at + q)

@@ -11,6 +11,8 @@ ghost use Rattle.rows.specs.Row.{row_of};
 ghost use Rattle.rows.specs.Place.{Stands};
 ghost use Rattle.rows.specs.Gather.{Evens, Swapped, Staged, Turned, column_words, side_by_side, stores, store_bytes, Gathered, RowsLaid};
 
+use std::array::from_fn;
+
 // The masks of a turn whose digits are those of a weight's exponent: words of eight columns become words of rows of eight weights.
 const WEIGHTS: [u64; 3] = [
     0x0f0f_0f0f_0f0f_0f0f,
@@ -112,16 +114,7 @@ fn eight_words(w: &[u64; 128], at: usize) -> [u64; 8]
     requires { at + 8 ≤ 128 }
     ensures { result ≡ side_by_side w.now at }
 {
-    [
-        w[at],
-        w[at + 1],
-        w[at + 2],
-        w[at + 3],
-        w[at + 4],
-        w[at + 5],
-        w[at + 6],
-        w[at + 7],
-    ]
+    from_fn(|c| w[at + c])
 }
 
 // Lays eight words as bytes, 128 bytes apart.

@@ -4,7 +4,7 @@ use Rattle.words.specs.Bytes.{part, concat}
 use Rattle.words.specs.Xor.{xor_list}
 use Rattle.words.proofs.Parts.{put_all}
 use Rattle.pads.proofs.Pairs.{both-pads}
-use Rattle.pads.proofs.SenderPads64.four.Goals as goal
+use Rattle.pads.proofs.SenderPads64.make_four.Goals as goal
 
 pub returns : goal.returns
 returns c =
