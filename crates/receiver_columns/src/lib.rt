@@ -53,6 +53,8 @@ fn hand_out_four(i: usize, u: &[u32], choices: &mut [u8], correction: &mut [u8])
 
 // The sums u of four trees from tree i on, each where it goes, and their columns, len bytes each. u and v are room to work in, whatever
 // they hold.
+// They stay two slices: of a slice the caller knows that it keeps its length, but of a struct that holds them, lent to be written, each
+// clause would have to say that, and that k and len stay.
 fn four_trees(
     i: usize,
     k: usize,

@@ -9,7 +9,8 @@ use Rattle.tree.specs.Layout.{root_of}
 use Rattle.tree.specs.Streams.{byte_of}
 use Rattle.tree.proofs.TreesFit.{few-trees, four-fit}
 use Rattle.columns.specs.Columns.{u_of, table_of, receiver_column, receiver_table}
-use Rattle.receiver_columns.proofs.Starts.{u-length, columns-length, roots-from, laid-put}
+use Rattle.columns.proofs.Tables.{u_of-length}
+use Rattle.receiver_columns.proofs.Starts.{columns-length, roots-from, laid-put}
 use Rattle.receiver_columns.proofs.all_trees.Goals as goal
 
 pub loop-q-init : goal.loop-q-init
@@ -68,7 +69,7 @@ loop-q-preserved c =
       choices-long = call.auto.choices ∙ w.invariant.choices-long;
       correction-long = call.auto.correction ∙ w.invariant.correction-long;
       sums = laid-put n len (λ j. u_of k stream len (root_of roots j)) i 4 (w.choices ++ w.correction) _ _
-          (roots-from (u_of k stream len) i roots) (λ j h. u-length k stream len (root_of roots j)) all call.ensures.correction_after w.invariant.sums;
+          (roots-from (u_of k stream len) i roots) (λ j h. u_of-length k stream len (root_of roots j)) all call.ensures.correction_after w.invariant.sums;
       columns = laid_more n (k * len) (λ j. concat k (receiver_column k stream len (root_of roots j))) i 4 w.table _
           (call.ensures.table_after ∙ roots-from (λ r. concat k (receiver_column k stream len r)) i roots)
           (λ j h. columns-length k stream len (root_of roots j)) all w.invariant.columns;
