@@ -5,7 +5,9 @@
 #![tactic(auto)]
 
 ghost use Rattle.std.specs.Prelude.{◌≤◌, length};
+ghost use Rattle.std.specs.Iterator.{at_most};
 
+use cases::input::Records;
 use std::io;
 use std::io::Write;
 
@@ -20,18 +22,45 @@ fn lay(file: &mut [u8], place: usize, part: &[u8]) {
     words::copy_part(file, place, part);
 }
 
-// Lays all parts that are sent: of each its place, its length, 4 bytes each, and its bytes.
-fn lay_all(file: &mut [u8], parts: &[u8]) {
-    let mut at = 0;
-    while 8 <= parts.len() - at {
-        let body = at + 8;
-        let n = words::load32(parts, at + 4) as usize;
-        if parts.len() - body < n {
-            return;
+// A part of a file that is sent: where it is laid, and its bytes.
+#[derive(Clone, Copy)]
+struct Part<'a> {
+    place: usize,
+    bytes: &'a [u8],
+}
+
+// Parts that stand one after the other: of each its place, its length, 4 bytes each, and its bytes; up to the first that is cut.
+#[derive(Clone, Copy)]
+struct Parts<'a> {
+    rest: &'a [u8],
+}
+
+impl<'a> Iterator for Parts<'a> {
+    type Item = Part<'a>;
+
+    ghost remaining = { λ s. at_most (length s.rest.now) };
+
+    fn next(&mut self) -> Option<Part<'a>> {
+        let rest = self.rest;
+        if rest.len() < 8 {
+            return None;
         }
-        let end = body + n;
-        lay(file, words::load32(parts, at) as usize, &parts[body..end]);
-        at = end;
+        let end = 8 + words::load32(rest, 4) as usize;
+        if rest.len() < end {
+            return None;
+        }
+        self.rest = &rest[end..];
+        Some(Part {
+            place: words::load32(rest, 0) as usize,
+            bytes: &rest[8..end],
+        })
+    }
+}
+
+// Lays all parts that are sent.
+fn lay_all(file: &mut [u8], parts: &[u8]) {
+    for part in (Parts { rest: parts }) {
+        lay(file, part.place, part.bytes);
     }
 }
 
@@ -79,13 +108,9 @@ fn read(to: &mut impl Write, p: &[u8]) -> io::Result<()> {
     let file = &mut all[0..n];
     lay_all(file, &p[8..]);
     print_found(to, file)?;
-    print_body(to, file, 0)?;
-    print_body(to, file, 1)?;
-    print_body(to, file, 2)?;
-    print_body(to, file, 3)?;
-    print_body(to, file, 4)?;
-    print_body(to, file, 5)?;
-    print_body(to, file, 6)?;
+    for kind in 0..7u32 {
+        print_body(to, file, kind)?;
+    }
     cases::print(to, b"")
 }
 
@@ -209,25 +234,12 @@ fn case(to: &mut impl Write, kind: u8, p: &[u8]) -> io::Result<()> {
     }
 }
 
-// Records one after the other: a kind, the length of what follows in 4 bytes, and that.
-fn run(to: &mut impl Write, s: &[u8]) -> io::Result<()> {
-    let mut at = 0;
-    while 5 <= s.len() - at {
-        let body = at + 5;
-        let n = words::load32(s, at + 1) as usize;
-        if s.len() - body < n {
-            return Ok(());
-        }
-        let end = body + n;
-        case(to, s[at], &s[body..end])?;
-        at = end;
-    }
-    Ok(())
-}
-
 fn main(rt: HostRuntime) -> io::Result<()> {
     let mut buffer = cases::million(0);
     let n = cases::read_full(&mut rt.stdin(), &mut buffer)?;
     let mut to = rt.stdout();
-    run(&mut to, &buffer[..n])
+    for record in (Records { rest: &buffer[..n] }) {
+        case(&mut to, record.kind, record.payload)?;
+    }
+    Ok(())
 }

@@ -5,6 +5,7 @@
 
 ghost use Rattle.std.specs.Prelude.{◌+◌, ◌≤◌, length};
 
+use cases::input::Records;
 use std::io;
 use std::io::Write;
 
@@ -185,25 +186,12 @@ fn case(to: &mut impl Write, kind: u8, p: &[u8]) -> io::Result<()> {
     }
 }
 
-// Records one after the other: a kind, the length of what follows in 4 bytes, and that.
-fn run(to: &mut impl Write, s: &[u8]) -> io::Result<()> {
-    let mut at = 0;
-    while 5 <= s.len() - at {
-        let body = at + 5;
-        let n = words::load32(s, at + 1) as usize;
-        if s.len() - body < n {
-            return Ok(());
-        }
-        let end = body + n;
-        case(to, s[at], &s[body..end])?;
-        at = end;
-    }
-    Ok(())
-}
-
 fn main(rt: HostRuntime) -> io::Result<()> {
     let mut buffer = cases::million(0);
     let n = cases::read_full(&mut rt.stdin(), &mut buffer)?;
     let mut to = rt.stdout();
-    run(&mut to, &buffer[..n])
+    for record in (Records { rest: &buffer[..n] }) {
+        case(&mut to, record.kind, record.payload)?;
+    }
+    Ok(())
 }
