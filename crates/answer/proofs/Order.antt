@@ -6,10 +6,10 @@ use mathlib.Core.Logic.{◌≢◌, inl, inr}
 use Prim.Native.Nat.{ℕ}
 use lib.Dec.{eqb}
 use borrow.Author.Tests.{eqb-true, not-true}
-use Rattle.answer.specs.declared.Answer.{Answer}
-use Rattle.answer.specs.declared.Answer.TheVariants.{Done, Check}
-use Rattle.answer.specs.Answer.{number, is_done, when_done, when_failed, Order, first_of, Among}
-use Rattle.answer.specs.Next.{next}
+use Rattle.std.specs.Prelude.{Ok, Err}
+use Rattle.answer.specs.declared.Refusal.{Refusal}
+use Rattle.answer.specs.declared.Refusal.TheVariants.{Check}
+use Rattle.answer.specs.Answer.{Answer, Done, number, is_done, when_done, when_failed, Order, first_of, Among}
 
 -- a condition doesn't both fail and hold
 pub apart : {P : Type 0} → ◌≡◌ {A = Bool} false true → P
@@ -33,11 +33,7 @@ cond-ap f false new old = refl
 -- the test p holds of every refusal
 abbrev pub each_refusal : (Answer → Bool) → Order → Bool
 each_refusal p [] = true
-each_refusal p (c ∷ cs) = p c.1 && each_refusal p cs
-
--- every refusal is one
-abbrev pub refusing : Order → Bool
-refusing cs = each_refusal (λ a. not (is_done a)) cs
+each_refusal p (c ∷ cs) = p (Err c.1) && each_refusal p cs
 
 abbrev pub member : List ℕ → ℕ → Bool
 member [] n = false
@@ -47,20 +43,20 @@ member (m ∷ ms) n = eqb n m || member ms n
 pub first-is : (p : Answer → Bool) (cs : Order) → p Done ≡ true → each_refusal p cs ≡ true → p (first_of cs) ≡ true
 unfolding first_of
 first-is p [] d e = d
-first-is p (c ∷ cs) d e = let h = (and-eq-true_iff (p c.1) (each_refusal p cs)).0 e in here c.0 (first-is p cs d h.1) h.0
+first-is p (c ∷ cs) d e = let h = (and-eq-true_iff (p (Err c.1)) (each_refusal p cs)).0 e in here c.0 (first-is p cs d h.1) h.0
   where
-    here : (b : Bool) → p (first_of cs) ≡ true → p c.1 ≡ true → p (cond b (first_of cs) c.1) ≡ true
+    here : (b : Bool) → p (first_of cs) ≡ true → p (Err c.1) ≡ true → p (cond b (first_of cs) (Err c.1)) ≡ true
     here true later now = later
     here false later now = now
 
 -- no refusal is a failed check
 abbrev pub unchecked : Order → Bool
-unchecked cs = each_refusal (λ a. not (eqb (number a) (number Check))) cs
+unchecked cs = each_refusal (λ a. not (eqb (number a) (number (Err Check)))) cs
 
 pub not-failed : {A : Type 0} (cs : Order) (a : Answer) (new old : A) → unchecked cs ≡ true → a ≡ first_of cs → when_failed a new old ≡ old
 not-failed cs a new old u e =
     ap (λ (x : Answer). when_failed x new old) e
-    ∙ ap (λ (b : Bool). cond b new old) (not-true (eqb (number (first_of cs)) (number Check)) (first-is (λ a. not (eqb (number a) (number Check))) cs refl u))
+    ∙ ap (λ (b : Bool). cond b new old) (not-true (eqb (number (first_of cs)) (number (Err Check))) (first-is (λ a. not (eqb (number a) (number (Err Check)))) cs refl u))
 
 member-among : (ns : List ℕ) (a : Answer) → member ns (number a) ≡ true → Among ns a
 member-among [] a e = false≢true e
@@ -89,15 +85,15 @@ hold-more (c ∷ cs) ds h k = (h.0, hold-more cs ds h.1 k)
 pub onward : (cs ds : Order) → AllHold cs → first_of (cs ++ ds) ≡ first_of ds
 unfolding first_of
 onward [] ds h = refl
-onward (c ∷ cs) ds h = ap (λ (b : Bool). cond b (first_of (cs ++ ds)) c.1) h.0 ∙ onward cs ds h.1
+onward (c ∷ cs) ds h = ap (λ (b : Bool). cond b (first_of (cs ++ ds)) (Err c.1)) h.0 ∙ onward cs ds h.1
 
 -- and where the next doesn't hold
-pub refused-at : (cs ds : Order) (b : Bool) (x : Answer) → AllHold cs → b ≡ false → first_of (cs ++ ((b, x) ∷ ds)) ≡ x
+pub refused-at : (cs ds : Order) (b : Bool) (x : Refusal) → AllHold cs → b ≡ false → first_of (cs ++ ((b, x) ∷ ds)) ≡ Err x
 unfolding first_of
-refused-at cs ds b x h e = onward cs ((b, x) ∷ ds) h ∙ ap (λ (t : Bool). cond t (first_of ds) x) e
+refused-at cs ds b x h e = onward cs ((b, x) ∷ ds) h ∙ ap (λ (t : Bool). cond t (first_of ds) (Err x)) e
 
 -- where the others hold the last decides
-pub last-decides : (cs : Order) (b : Bool) (x : Answer) → AllHold cs → first_of (cs ++ ((b, x) ∷ [])) ≡ cond b Done x
+pub last-decides : (cs : Order) (b : Bool) (x : Refusal) → AllHold cs → first_of (cs ++ ((b, x) ∷ [])) ≡ cond b Done (Err x)
 unfolding first_of
 last-decides cs b x h = onward cs ((b, x) ∷ []) h
 
@@ -107,8 +103,8 @@ unfolding first_of
 first-refused [] ds e = apart (sym e)
 first-refused (c ∷ cs) ds e = here c.0 (first-refused cs ds) e
   where
-    here : (b : Bool) → (is_done (first_of cs) ≡ false → first_of (cs ++ ds) ≡ first_of cs) → is_done (cond b (first_of cs) c.1) ≡ false
-        → cond b (first_of (cs ++ ds)) c.1 ≡ cond b (first_of cs) c.1
+    here : (b : Bool) → (is_done (first_of cs) ≡ false → first_of (cs ++ ds) ≡ first_of cs) → is_done (cond b (first_of cs) (Err c.1)) ≡ false
+        → cond b (first_of (cs ++ ds)) (Err c.1) ≡ cond b (first_of cs) (Err c.1)
     here true later q = later q
     here false later q = refl
 
@@ -116,67 +112,35 @@ first-refused (c ∷ cs) ds e = here c.0 (first-refused cs ds) e
 pub done-when : (cs : Order) → AllHold cs → first_of cs ≡ Done
 unfolding first_of
 done-when [] h = refl
-done-when (c ∷ cs) h = ap (λ (b : Bool). cond b (first_of cs) c.1) h.0 ∙ done-when cs h.1
+done-when (c ∷ cs) h = ap (λ (b : Bool). cond b (first_of cs) (Err c.1)) h.0 ∙ done-when cs h.1
 
 -- the first conditions hold where the answer is none of their refusals, as the test p tells them
 pub reached : (p : Answer → Bool) (cs ds : Order) → each_refusal p cs ≡ true → p (first_of (cs ++ ds)) ≡ false → AllHold cs
 unfolding first_of
 reached p [] ds e other = tt
-reached p (c ∷ cs) ds e other = let h = (and-eq-true_iff (p c.1) (each_refusal p cs)).0 e in here c.0 (reached p cs ds h.1) h.0 other
+reached p (c ∷ cs) ds e other = let h = (and-eq-true_iff (p (Err c.1)) (each_refusal p cs)).0 e in here c.0 (reached p cs ds h.1) h.0 other
   where
-    here : (b : Bool) → (p (first_of (cs ++ ds)) ≡ false → AllHold cs) → p c.1 ≡ true → p (cond b (first_of (cs ++ ds)) c.1) ≡ false
+    here : (b : Bool) → (p (first_of (cs ++ ds)) ≡ false → AllHold cs) → p (Err c.1) ≡ true → p (cond b (first_of (cs ++ ds)) (Err c.1)) ≡ false
         → (b ≡ true) × AllHold cs
     here true later one q = (refl, later q)
     here false later one q = apart (sym q ∙ one)
 
 -- all conditions hold of a step that is done
-pub all_hold : (cs : Order) → refusing cs ≡ true → is_done (first_of cs) ≡ true → AllHold cs
+pub all_hold : (cs : Order) → is_done (first_of cs) ≡ true → AllHold cs
 unfolding first_of
-all_hold [] r e = tt
-all_hold (c ∷ cs) r e = let h = (and-eq-true_iff (not (is_done c.1)) (refusing cs)).0 r in here c.0 (all_hold cs h.1) h.0 e
+all_hold [] e = tt
+all_hold (c ∷ cs) e = here c.0 (all_hold cs) e
   where
-    here : (b : Bool) → (is_done (first_of cs) ≡ true → AllHold cs) → not (is_done c.1) ≡ true → is_done (cond b (first_of cs) c.1) ≡ true
-        → (b ≡ true) × AllHold cs
-    here true later one q = (refl, later q)
-    here false later one q = apart (sym (not-true _ one) ∙ q)
+    here : (b : Bool) → (is_done (first_of cs) ≡ true → AllHold cs) → is_done (cond b (first_of cs) (Err c.1)) ≡ true → (b ≡ true) × AllHold cs
+    here true later q = (refl, later q)
+    here false later q = apart q
 
--- so its number tells that it is done
-pub is-done : (cs : Order) → refusing cs ≡ true → is_done (first_of cs) ≡ true → first_of cs ≡ Done
-is-done cs r e = done-when cs (all_hold cs r e)
+-- an answer that isn't a refusal is done
+pub is-done : (a : Answer) → is_done a ≡ true → a ≡ Done
+is-done (Ok tt) e = refl
+is-done (Err x) e = apart e
 
-pub not_done : (cs : Order) (a : Answer) → refusing cs ≡ true → a ≡ first_of cs → a ≢ Done → is_done a ≡ false
-not_done cs a r e ne = ap is_done e ∙ here (is_done (first_of cs)) (is-done cs r)
-  where
-    here : (b : Bool) → (b ≡ true → first_of cs ≡ Done) → b ≡ false
-    here true done = absurd (ne (e ∙ done refl))
-    here false done = refl
-
--- ---- a chain of `next` gives the first of its conditions
-
-abbrev pub chain : Answer → Order → Answer
-chain a [] = a
-chain a (c ∷ cs) = chain (next a c.0 c.1) cs
-
-stopped : (a : Answer) (cs : Order) → is_done a ≡ false → chain a cs ≡ a
-stopped a [] e = refl
-stopped a (c ∷ cs) e = ap (λ (x : Answer). chain x cs) (old-when a (cond c.0 Done c.1) a e) ∙ stopped a cs e
-
-pub chain_first : (cs : Order) → refusing cs ≡ true → chain Done cs ≡ first_of cs
-unfolding first_of
-chain_first [] r = refl
-chain_first (c ∷ cs) r = let h = (and-eq-true_iff (not (is_done c.1)) (refusing cs)).0 r in here c.0 (chain_first cs h.1) h.0
-  where
-    here : (b : Bool) → chain Done cs ≡ first_of cs → not (is_done c.1) ≡ true → chain (next Done b c.1) cs ≡ cond b (first_of cs) c.1
-    here true later one = later
-    here false later one = stopped c.1 cs (not-true _ one)
-
--- and it may go on from the first of others
-pub chain-onward : (cs ds : Order) → refusing cs ≡ true → refusing ds ≡ true → chain (first_of cs) ds ≡ first_of (cs ++ ds)
-unfolding first_of
-chain-onward [] ds r s = chain_first ds s
-chain-onward (c ∷ cs) ds r s = let h = (and-eq-true_iff (not (is_done c.1)) (refusing cs)).0 r in here c.0 (chain-onward cs ds h.1 s) h.0
-  where
-    here : (b : Bool) → chain (first_of cs) ds ≡ first_of (cs ++ ds) → not (is_done c.1) ≡ true
-        → chain (cond b (first_of cs) c.1) ds ≡ cond b (first_of (cs ++ ds)) c.1
-    here true later one = later
-    here false later one = stopped c.1 ds (not-true _ one)
+-- and one that isn't done is a refusal
+pub not_done : (a : Answer) → a ≢ Done → is_done a ≡ false
+not_done (Ok tt) ne = absurd (ne refl)
+not_done (Err x) ne = refl

@@ -16,7 +16,7 @@ use Rattle.rules.specs.Orders.{head_right}
 use Rattle.rules.proofs.Fits.{FileTells}
 use Rattle.batchfile.specs.File.{count_of, field_at, length_at, place_at, body_at, contents_right, kind_of, present, entry_of, body_of, head_in, head_of, Taken}
 use Rattle.batchfile.specs.Laid.{total, place_in, entry_in, contents_in, laid, head_bytes, bodies_of, has_setup, body_for, laid_last, file_with}
-use Rattle.batchfile.proofs.Contents.{standing, body-fits, body_is, none_below}
+use Rattle.batchfile.proofs.Standing.{standing, body-fits, body_is, none_below}
 use Rattle.batchfile.proofs.Reading.{head-cases, body-there}
 use Rattle.batchfile.proofs.Laid.{laid_same}
 use Rattle.batchfile.proofs.Taken.{taken-tells, setup-there}
@@ -164,7 +164,7 @@ module _ (file : Range) (taken : Taken file) where
   -- its head holds bytes, and so its batch number has 64 bits
   pub head_bytes_lem : Bytes file → Bytes (body_of file 2)
   head_bytes_lem h =
-      subst Bytes (sym (body-there file right 2 (omega arith) (omega arith)))
+      subst Bytes (sym (body-there file right 2 (omega arith)))
       (part-lt (place_at file (entry_of (count_of file) 2)) (length (body_of file 2)) file 256 (zero-lt-suc 255) h)
 
   pub batch-fits : Bytes file → (head_of file).batch < 2 ^ 64

@@ -14,14 +14,14 @@ use Rattle.words.specs.Bytes.{Range, little_endian, bytes}
 use Rattle.words.proofs.Numbers.{bytes-length, little_endian-bytes}
 use Rattle.answer.specs.Answer.{Order, first_of}
 use Rattle.answer.proofs.Order.{onward}
-use Rattle.answer.specs.declared.Answer.TheVariants.{Contents, Body}
+use Rattle.answer.specs.declared.Refusal.TheVariants.{Contents, Body}
 use Rattle.sizes.specs.Sizes.{contents_length, head_length, entries_with}
 use Rattle.rules.specs.Orders.{head_right, file_order}
 use Rattle.rules.proofs.Fits.{FileTells, setup-most}
 use Rattle.batchfile.specs.declared.FileHead.{FileHead}
 use Rattle.batchfile.specs.File.{count_of, body_at, contents_right, kind_of, present, entry_of, body_of, head_in, read_answer}
 use Rattle.batchfile.specs.Laid.{total, place_in, head_bytes, Bodies, bodies_with, bodies_of, has_setup, body_for, laid_last, file_with}
-use Rattle.batchfile.proofs.Contents.{body_is, none_below}
+use Rattle.batchfile.proofs.Standing.{body_is, none_below}
 use Rattle.batchfile.proofs.Taken.{correction-most}
 use Rattle.batchfile.proofs.Laid.{Count, count-least, count_most, laid-length, count-read, body-read, contents-read}
 

@@ -9,7 +9,7 @@ use lib.ListN.{length, take, drop}
 use Rattle.words.specs.Bytes.{part}
 use Rattle.answer.specs.Answer.{is_done, when_done}
 use Rattle.batchfile.specs.File.{count_of, length_at, place_at, contents_right, entry_of, body_of, read_answer, places_of, nowhere, places_found, body_between}
-use Rattle.batchfile.proofs.Contents.{standing, place-more, none_below, none_above, body_is}
+use Rattle.batchfile.proofs.Standing.{standing, place-more, none_below, none_above, body_is}
 use Rattle.batchfile.proofs.Reading.{read_all}
 
 -- nothing stands between a place and itself

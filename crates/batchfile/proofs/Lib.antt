@@ -1,4 +1,4 @@
-pub mod Contents
+pub mod Standing
 pub mod Reading
 pub mod Bodies
 pub mod Laid

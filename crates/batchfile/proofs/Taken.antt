@@ -15,7 +15,7 @@ use Rattle.sizes.proofs.Widths.{width-cases}
 use Rattle.rules.specs.Orders.{most_blocks, head_right, setup_right}
 use Rattle.rules.proofs.Fits.{FileTells, file-fits}
 use Rattle.batchfile.specs.File.{count_of, place_at, contents_right, present, entry_of, body_of, head_of, Taken, longest_file}
-use Rattle.batchfile.proofs.Contents.{standing, place-first, place-more, none_below, body-length}
+use Rattle.batchfile.proofs.Standing.{standing, place-first, place-more, none_below, body-length}
 use Rattle.batchfile.proofs.Reading.{read_all, head-most}
 
 -- its contents are right, its head has one of its two lengths, the head's values and the bodies' lengths keep their bounds, and its key is

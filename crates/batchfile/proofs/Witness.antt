@@ -11,7 +11,7 @@ use lib.ListN.{length, get_or}
 use Rattle.words.specs.Bytes.{Range, Bytes, little_endian, bytes, concat}
 use Rattle.words.proofs.Concat.{append-bytes, concat-lt}
 use Rattle.words.proofs.Numbers.{bytes_lt}
-use Rattle.answer.specs.declared.Answer.TheVariants.{Body}
+use Rattle.answer.specs.declared.Refusal.TheVariants.{Body}
 use Rattle.answer.specs.Answer.{first_of}
 use Rattle.answer.proofs.Order.{done-when}
 use Rattle.sizes.specs.Sizes.{width_allowed, entries_with, setup_message_length, correction_length, key_length, check_message_length}

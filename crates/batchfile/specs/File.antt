@@ -1,13 +1,16 @@
 -- A batch on file. Paper 02, notes 1, 3 and 5. Assumes nothing.
-use Rattle.std.specs.Prelude.{◌≡◌, Bool, cond, ◌&&◌, ◌||◌, [], ◌∷◌, ℕ, zero, suc, ◌+◌, ◌-◌, ◌*◌, eqb, leb, length, get_or, drop}
+use Rattle.std.specs.Prelude.{◌≡◌, Bool, cond, Result, Ok, Err, MatchResult, ◌⊎◌, ◌<◌, ◌&&◌, ◌||◌, [], ◌∷◌, ℕ, zero, suc, ◌+◌, ◌-◌, ◌*◌, eqb, leb, length, get_or, drop}
 use Rattle.words.specs.Bytes.{Range, little_endian, word32, part, every}
 use Rattle.sizes.specs.Sizes.{contents_length, setup_message_length, file_length}
-use Rattle.answer.specs.declared.Answer.{Answer}
-use Rattle.answer.specs.declared.Answer.TheVariants.{Done, Contents, Body}
-use Rattle.answer.specs.Answer.{when_done, Order, first_of}
+use Rattle.answer.specs.declared.Refusal.{Refusal}
+use Rattle.answer.specs.declared.Refusal.TheVariants.{Contents, Body}
+use Rattle.answer.specs.Answer.{Answer, Done, when_done, Order, first_of}
 use Rattle.rules.specs.Orders.{most_blocks, head_right, file_order}
 use Rattle.batchfile.specs.declared.FileHead.{FileHead}
 use Rattle.batchfile.specs.declared.Places.{Places}
+use Rattle.batchfile.specs.declared.BatchFile.{BatchFile}
+use Rattle.batchfile.specs.declared.Kind.{Kind}
+use Rattle.batchfile.specs.declared.Kind.TheVariants.{Setup, Head, Correction, Key, Check}
 
 -- ---- the contents
 
@@ -57,6 +60,17 @@ unfoldable pub contents_right : (file : Range) → Bool
 contents_right file = entries_stand file && bodies_stand file
 
 -- ---- the bodies: kind 1 is the setup, 2 the head, 3 the correction, 4 the key, 5 the check
+
+abbrev pub kind_number : Kind → ℕ
+kind_number Setup = 1
+kind_number Head = 2
+kind_number Correction = 3
+kind_number Key = 4
+kind_number Check = 5
+
+-- a number is that of a kind, or of none
+abbrev pub KindOf : (number : ℕ) → Result Kind ℕ → Type 0
+KindOf number r = MatchResult r (λ kind. kind_number kind ≡ number) (λ other. (other ≡ number) × ((number ≡ 0) ⊎ (5 < number)))
 
 -- of so many entries whether a kind has one, and which: of four, the setup has none
 abbrev pub present : (count kind : ℕ) → Bool
@@ -124,6 +138,23 @@ pub record ReadFile (file : Range) (answer : Answer) (head : FileHead) (places :
   pub answered : answer ≡ read_answer file
   pub headed : head ≡ head_found file
   pub placed : places ≡ places_found file
+
+-- what a result stands for: its answer, and on a refusal no head and no place
+abbrev pub answer_given : (r : Result BatchFile Refusal) → Answer
+answer_given (Ok found) = Done
+answer_given (Err refusal) = Err refusal
+
+abbrev pub head_given : (r : Result BatchFile Refusal) → FileHead
+head_given (Ok found) = found.head
+head_given (Err refusal) = no_head
+
+abbrev pub places_given : (end : ℕ) (r : Result BatchFile Refusal) → Places
+places_given end (Ok found) = found.places
+places_given end (Err refusal) = nowhere end
+
+-- the result of reading
+abbrev pub Finds : (file : Range) (r : Result BatchFile Refusal) → Type 0
+Finds file r = ReadFile file (answer_given r) (head_given r) (places_given (length file) r)
 
 -- ---- what is handed out
 

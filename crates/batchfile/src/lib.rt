@@ -1,23 +1,79 @@
 // A batch on file: whether it may be read, its head, and where its bodies begin. Nothing of it is copied.
 #![tactic(auto)]
 
+mod contents;
 pub mod values;
 
-ghost use Rattle.std.specs.Prelude.{◌≡◌, true, false, ◌&&◌, ◌+◌, ◌-◌, ◌^◌, ◌≤◌, ◌<◌, eqb, length};
-ghost use Rattle.words.specs.Bytes.{little_endian, part, every};
+ghost use Rattle.std.specs.Prelude.{◌≡◌, true, ◌+◌, ◌-◌, ◌≤◌, length};
+ghost use Rattle.words.specs.Bytes.{little_endian, part};
 ghost use Rattle.sizes.specs.Sizes.{contents_length};
-ghost use Rattle.answer.specs.Answer.{is_done, first_of};
 ghost use Rattle.rules.specs.Orders.{head_right};
-ghost use Rattle.batchfile.specs.File.{count_of, field_at, place_at, entry_right, contents_right, entry_of, body_of, head_in, head_of, values_order, read_answer, places_of, nowhere, no_head, longest_file, ReadFile};
+ghost use Rattle.batchfile.specs.File.{head_in, nowhere, longest_file, kind_number, KindOf, Finds};
 
-use answer::Answer;
+use answer::{Refusal, require};
+use contents::Contents;
 
-// What a head says: the width, the blocks and the batch number.
-#[derive(Clone, Copy)]
+// The kinds of bodies, in the order in which they stand.
+#[derive(Clone, Copy, PartialEq, Eq, Debug)]
+pub enum Kind {
+    Setup = 1,
+    Head = 2,
+    Correction = 3,
+    Key = 4,
+    Check = 5,
+}
+
+impl Kind {
+    fn number(self) -> usize
+        ensures { result ≡ kind_number self }
+    {
+        self as usize
+    }
+}
+
+// A number that is no kind's is given back.
+impl TryFrom<u32> for Kind {
+    type Error = u32;
+
+    ghost try_from_gives = { KindOf };
+
+    fn try_from(number: u32) -> Result<Self, u32> {
+        match number {
+            1 => Ok(Kind::Setup),
+            2 => Ok(Kind::Head),
+            3 => Ok(Kind::Correction),
+            4 => Ok(Kind::Key),
+            5 => Ok(Kind::Check),
+            other => Err(other),
+        }
+    }
+}
+
+// What a head says: the width, the blocks and the batch number. Its default is a head of zeros.
+#[derive(Clone, Copy, Default)]
 pub struct FileHead {
     pub width: u32,
     pub blocks: u32,
     pub batch: u64,
+}
+
+impl FileHead {
+    // What a head's body says: the batch number has all but two bytes.
+    fn of(body: &[u8]) -> Self
+        requires { head_right (length body.now) ≡ true }
+        ensures { result ≡ head_in body.now }
+    {
+        let batch = if body.len() == sizes::SHORT_HEAD_LENGTH {
+            words::load32(body, 2) as u64
+        } else {
+            words::load64(body, 2)
+        };
+        FileHead {
+            width: body[0] as u32,
+            blocks: body[1] as u32,
+            batch,
+        }
+    }
 }
 
 // Where the five bodies begin.
@@ -30,10 +86,24 @@ pub struct Places {
     pub check: usize,
 }
 
-// What reading finds.
+impl Places {
+    // All at one: those of a file that is refused are at its end.
+    pub fn nowhere(end: usize) -> Self
+        ensures { result ≡ nowhere end }
+    {
+        Places {
+            setup: end,
+            head: end,
+            correction: end,
+            key: end,
+            check: end,
+        }
+    }
+}
+
+// What reading finds in a file that is taken.
 #[derive(Clone, Copy)]
-pub struct Found {
-    pub answer: Answer,
+pub struct BatchFile {
     pub head: FileHead,
     pub places: Places,
 }
@@ -46,238 +116,22 @@ pub fn contents_length(count: usize) -> usize
     4 + 12 * count
 }
 
-// The number of entries.
-fn count(file: &[u8]) -> usize
-    requires { contents_length 0 ≤ length file.now }
-    ensures { result ≡ count_of file.now }
-{
-    words::load32(file, 0) as usize
-}
-
-// A field of entry e: 0 its kind, 1 where its body begins, 2 its body's length.
-fn field(file: &[u8], e: usize, i: usize) -> usize
-    requires { (contents_length (e + 1) ≤ length file.now) × (e < 5) × (i < 3) }
-    ensures { (result ≡ field_at file.now e i) × (result < 2 ^ 32) }
-{
-    words::load32(file, contents_length(e) + 4 * i) as usize
-}
-
-// Whether entry e of n has its kind, and its body begins at a place.
-fn entry_right(file: &[u8], n: usize, e: usize, place: usize) -> bool
-    requires { (n ≡ count_of file.now) × (n ≤ 5) × (e < n) × (contents_length n ≤ length file.now) × (place ≡ place_at file.now e) }
-    ensures { result ≡ entry_right file.now e }
-{
-    if field(file, e, 0) != e + 6 - n {
-        return false;
-    }
-    field(file, e, 1) == place
-}
-
-// Whether n entries are right, and their bodies reach to the file's end.
-fn bodies_stand(file: &[u8], n: usize) -> bool
-    requires { (n ≡ count_of file.now) × (n ≤ 5) × (contents_length n ≤ length file.now) }
-    ensures { result ≡ (every n (entry_right file.now) && eqb (place_at file.now n) (length file.now)) }
-{
-    let mut place = contents_length(n);
-    let mut e = 0;
-    while e < n {
-        if !entry_right(file, n, e, place) {
-            return false;
-        }
-        place += field(file, e, 2);
-        e += 1;
-    }
-    place == file.len()
-}
-
-// Whether the contents of a file of four or five entries are right.
-fn counted_right(file: &[u8], n: usize) -> bool
-    requires { (n ≡ count_of file.now) × (4 ≤ n) × (n ≤ 5) }
-    ensures { result ≡ contents_right file.now }
-{
-    if file.len() < contents_length(n) {
-        return false;
-    }
-    bodies_stand(file, n)
-}
-
-// And of any file. Each count is named, so that the compiler makes straight code for each.
-fn contents_right(file: &[u8]) -> bool
-    ensures { result ≡ contents_right file.now }
-{
-    if file.len() < contents_length(0) {
-        return false;
-    }
-    let n = count(file);
-    if n == 5 {
-        return counted_right(file, 5);
-    }
-    if n == 4 {
-        return counted_right(file, 4);
-    }
-    false
-}
-
-// Of n entries, a field of that of a kind but the setup.
-fn field_of(file: &[u8], n: usize, kind: usize, i: usize) -> usize
-    requires { (contents_right file.now ≡ true) × (n ≡ count_of file.now) × (2 ≤ kind) × (kind ≤ 5) × (i < 3) }
-    ensures { result ≡ field_at file.now (entry_of n kind) i }
-{
-    field(file, kind + n - 6, i)
-}
-
-// Where its body begins.
-fn place_of(file: &[u8], n: usize, kind: usize) -> usize
-    requires { (contents_right file.now ≡ true) × (n ≡ count_of file.now) × (2 ≤ kind) × (kind ≤ 5) }
-    ensures { result ≡ place_at file.now (entry_of n kind) }
-{
-    field_of(file, n, kind, 1)
-}
-
-// And its body's length.
-fn length_of(file: &[u8], n: usize, kind: usize) -> usize
-    requires { (contents_right file.now ≡ true) × (n ≡ count_of file.now) × (2 ≤ kind) × (kind ≤ 5) }
-    ensures { result ≡ length (body_of file.now kind) }
-{
-    field_of(file, n, kind, 2)
-}
-
-// The length of the setup, which is absent where there are four entries.
-fn setup_length(file: &[u8], n: usize) -> usize
-    requires { (contents_right file.now ≡ true) × (n ≡ count_of file.now) }
-    ensures { result ≡ length (body_of file.now 1) }
-{
-    if n == 5 {
-        return field(file, 0, 2);
-    }
-    0
-}
-
-// The batch number of a head of a length, at its place: all of the head but two bytes.
-fn batch_at(file: &[u8], at: usize, head: usize) -> u64
-    requires { (head_right head ≡ true) × (at + (head - 2) ≤ length file.now) }
-    ensures { result ≡ little_endian (part at (head - 2) file.now) }
-{
-    if head == sizes::SHORT_HEAD_LENGTH {
-        return words::load32(file, at) as u64;
-    }
-    words::load64(file, at)
-}
-
-// The head of a length at a place.
-fn head_at(file: &[u8], at: usize, head: usize) -> FileHead
-    requires { (head_right head ≡ true) × (at + head ≤ length file.now) }
-    ensures { result ≡ head_in (part at head file.now) }
-{
-    FileHead {
-        width: file[at] as u32,
-        blocks: file[at + 1] as u32,
-        batch: batch_at(file, at + 2, head),
-    }
-}
-
-// The head of a file of n entries.
-fn head_of(file: &[u8], n: usize) -> FileHead
-    requires { (contents_right file.now ≡ true) × (n ≡ count_of file.now) × (head_right (length (body_of file.now 2)) ≡ true) }
-    ensures { result ≡ head_of file.now }
-{
-    let at = place_of(file, n, 2);
-    head_at(file, at, length_of(file, n, 2))
-}
-
-// The answer of the head's values, the bodies' lengths and the key, which is read where it stands.
-fn values_answer(file: &[u8], n: usize, head: FileHead) -> Answer
-    requires { (contents_right file.now ≡ true) × (n ≡ count_of file.now) × (head ≡ head_of file.now) }
-    ensures { result ≡ first_of (values_order file.now) }
-{
-    let key = place_of(file, n, 4);
-    let end = key + length_of(file, n, 4);
-    values::answer(
-        head.width,
-        head.batch,
-        head.blocks,
-        n == 5,
-        setup_length(file, n),
-        length_of(file, n, 3),
-        &file[key..end],
-        length_of(file, n, 5),
-    )
-}
-
-// Where the bodies of a file of n entries begin.
-fn places_of(file: &[u8], n: usize) -> Places
-    requires { (contents_right file.now ≡ true) × (n ≡ count_of file.now) }
-    ensures { result ≡ places_of file.now }
-{
-    Places {
-        setup: contents_length(n),
-        head: place_of(file, n, 2),
-        correction: place_of(file, n, 3),
-        key: place_of(file, n, 4),
-        check: place_of(file, n, 5),
-    }
-}
-
-// All places at one.
-fn nowhere(end: usize) -> Places
-    ensures { result ≡ nowhere end }
-{
-    Places {
-        setup: end,
-        head: end,
-        correction: end,
-        key: end,
-        check: end,
-    }
-}
-
-// A head of zeros.
-fn no_head() -> FileHead
-    ensures { result ≡ no_head }
-{
-    FileHead {
-        width: 0,
-        blocks: 0,
-        batch: 0,
-    }
-}
-
-// What is found of a file that is refused: no head, and no body.
-fn refused(file: &[u8], answer: Answer) -> Found
-    requires { (answer ≡ read_answer file.now) × (is_done answer ≡ false) }
-    ensures { ReadFile file.now result.answer result.head result.places }
-{
-    let head = no_head();
-    let places = nowhere(file.len());
-    Found {
-        answer,
-        head,
-        places,
-    }
-}
-
 // Reads a file, whatever it holds.
-pub fn find(file: &[u8]) -> Found
-    ensures { ReadFile file.now result.answer result.head result.places }
+#[tactic(auto, unfolding(crate::specs::File::read_answer, answer::specs::Answer::first_of))]
+pub fn find(file: &[u8]) -> Result<BatchFile, Refusal>
+    ensures { Finds file.now result }
 {
-    if !contents_right(file) {
-        return refused(file, Answer::Contents);
-    }
-    let n = count(file);
-    if !values::head_right(length_of(file, n, 2)) {
-        return refused(file, Answer::Body);
-    }
-    let head = head_of(file, n);
-    let answer = values_answer(file, n, head);
-    if answer::is_done(answer) {
-        let places = places_of(file, n);
-        return Found {
-            answer,
-            head,
-            places,
-        };
-    }
-    refused(file, answer)
+    let contents = Contents::of(file).ok_or(Refusal::Contents)?;
+    require(
+        values::head_right(contents.length_of(Kind::Head)),
+        Refusal::Body,
+    )?;
+    let head = contents.head();
+    contents.values_answer(head)?;
+    Ok(BatchFile {
+        head,
+        places: contents.places(),
+    })
 }
 
 // No file that is read is longer.

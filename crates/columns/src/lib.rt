@@ -10,7 +10,7 @@ pub fn room(len: usize) -> usize
     requires { len ≤ 128 }
     ensures { result ≡ (len + 63) / 64 * 64 }
 {
-    (len + 63) / 64 * 64
+    len.next_multiple_of(64)
 }
 
 // Fills out with k columns of len bytes from lane l of v, where a column begins every stride words.
@@ -19,14 +19,12 @@ fn store_tree(k: usize, len: usize, stride: usize, v: &[u32], l: usize, out: &mu
     requires stride_in_bounds { (k * stride ≤ length v.now) × (length out.old ≡ k * len) }
     ensures { out.new ≡ concat k (λ b. lane_bytes l (len / 4) (part (b * stride) len v.now)) }
 {
-    let mut b = 0;
-    while b < k {
+    for b in 0..k {
         let at = b * len;
         let end = at + len;
         let from = b * stride;
         let to = from + len;
         words::store_lane(&mut out[at..end], l, &v[from..to]);
-        b += 1;
     }
 }
 
@@ -37,11 +35,9 @@ pub fn store_trees(k: usize, len: usize, stride: usize, v: &[u32], out: &mut [u8
     ensures { out.new ≡ concat 4 (λ l. concat k (λ b. lane_bytes l (len / 4) (part (b * stride) len v.now))) }
 {
     let size = k * len;
-    let mut l = 0;
-    while l < 4 {
+    for l in 0..4 {
         let at = l * size;
         let end = at + size;
         store_tree(k, len, stride, v, l, &mut out[at..end]);
-        l += 1;
     }
 }

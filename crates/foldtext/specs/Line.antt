@@ -2,7 +2,7 @@
 use Rattle.std.specs.Prelude.{◌≡◌, Bool, false, cond, List, [], ◌∷◌, ◌++◌, ℕ, zero, suc, ◌+◌, ◌-◌, ◌/◌, ◌%◌, leb, ltb, eqb, length, drop, replicate}
 use Rattle.words.specs.Bytes.{word64}
 use Rattle.gf64.specs.Field.{fold_bytes}
-use Rattle.foldtext.specs.declared.Text.{Text}
+use Rattle.foldtext.specs.declared.text.Text.{Text}
 
 -- 'a key, then 1 to 16 words, 8 bytes each, so 16 to 136 bytes in all, a multiple of 8'
 unfoldable pub is_input : ℕ → Bool
@@ -29,7 +29,7 @@ refused_line = 114 ∷ 101 ∷ 102 ∷ 117 ∷ 115 ∷ 101 ∷ 100 ∷ 10 ∷ []
 unfoldable pub line_of : List ℕ → List ℕ
 line_of s = cond (is_input (length s)) (fold_line (fold_bytes (word64 s 0) (drop 8 s))) refused_line
 
--- the code's text: these bytes, and zeros up to its 17
-pub record Holds (r : Text) (l : List ℕ) : Type 0 where
+-- the code's text: these bytes, and zeros up to its n
+pub record Holds {n : ℕ} (r : Text n) (l : List ℕ) : Type 0 where
   pub long : r.len ≡ length l
-  pub bytes : r.bytes ≡ l ++ replicate (17 - length l) 0
+  pub bytes : r.bytes ≡ l ++ replicate (n - length l) 0

@@ -2,8 +2,6 @@
 // include/softspoken.h declares them there.
 #![tactic(auto)]
 
-mod numbered;
-
 ghost use Rattle.std.specs.Prelude.{◌≡◌};
 ghost use Rattle.answer.specs.Answer.{Numbered};
 ghost use Rattle.setup.specs.Setup.{ReceiverSetup, SenderSetup};
@@ -12,7 +10,10 @@ ghost use Rattle.batchfile.specs.Laid.{head_with, bodies_with};
 ghost use Rattle.filewriter.specs.Write.{WriteFile};
 ghost use Rattle.host.specs.File.{file_read};
 
+use batchfile::{BatchFile, FileHead, Places};
+use filewriter::Bodies;
 use rules::Record;
+use session::Stepped;
 
 // The receiver's setup. It returns the answer's number.
 pub fn softspoken_receiver_setup(
@@ -45,9 +46,9 @@ pub fn softspoken_sender_setup(
 pub fn softspoken_open(rec: &mut Record, width: u32) -> u32
     ensures { Numbered (λ answer. OpenSession rec.old width answer rec.new) result }
 {
-    let s = numbered::open(*rec, width);
-    *rec = s.record;
-    s.number
+    let Stepped { answer, record } = session::open(*rec, width);
+    *rec = record;
+    answer::number_of(answer)
 }
 
 // The receiver's start on a lent record. It returns the answer's number.
@@ -62,9 +63,11 @@ pub fn softspoken_receiver_start(
 ) -> u32
     ensures { Numbered (λ answer. ReceiverStart rec.old roots.now batch blocks choices.old table.old correction.old answer rec.new choices.new table.new correction.new) result }
 {
-    let s = numbered::receiver_start(*rec, roots, batch, blocks, choices, table, correction);
-    *rec = s.record;
-    s.number
+    let Stepped { answer, record } = session::receiver_start(
+        *rec, roots, batch, blocks, choices, table, correction,
+    );
+    *rec = record;
+    answer::number_of(answer)
 }
 
 // The sender's correction on a lent record. It returns the answer's number.
@@ -79,9 +82,11 @@ pub fn softspoken_sender_correct(
 ) -> u32
     ensures { Numbered (λ answer. SenderCorrect rec.old siblings.now delta.now batch blocks correction.now table.old answer rec.new table.new) result }
 {
-    let s = numbered::sender_correct(*rec, siblings, delta, batch, blocks, correction, table);
-    *rec = s.record;
-    s.number
+    let Stepped { answer, record } = session::sender_correct(
+        *rec, siblings, delta, batch, blocks, correction, table,
+    );
+    *rec = record;
+    answer::number_of(answer)
 }
 
 // The receiver's answer on a lent record. It returns the answer's number.
@@ -95,9 +100,11 @@ pub fn softspoken_receiver_answer(
 ) -> u32
     ensures { Numbered (λ answer. ReceiverAnswer rec.old key choices.now table.now message.old pads.old answer rec.new message.new pads.new) result }
 {
-    let s = numbered::receiver_answer(*rec, key, choices, table, message, pads);
-    *rec = s.record;
-    s.number
+    let Stepped { answer, record } = session::receiver_answer(
+        *rec, key, choices, table, message, pads,
+    );
+    *rec = record;
+    answer::number_of(answer)
 }
 
 // The sender's verify on a lent record. It returns the answer's number.
@@ -111,9 +118,9 @@ pub fn softspoken_sender_verify(
 ) -> u32
     ensures { Numbered (λ answer. SenderVerify rec.old key table.now delta.now message.now pads.old answer rec.new pads.new) result }
 {
-    let s = numbered::sender_verify(*rec, key, table, delta, message, pads);
-    *rec = s.record;
-    s.number
+    let Stepped { answer, record } = session::sender_verify(*rec, key, table, delta, message, pads);
+    *rec = record;
+    answer::number_of(answer)
 }
 
 // What reading a file gives back: the answer's number, the head's values, where each body begins, and the file's end. A body reaches from its
@@ -137,20 +144,26 @@ pub struct FileRead {
 pub fn softspoken_file_read(file: &[u8]) -> FileRead
     ensures { result ≡ file_read file.now }
 {
-    let found = batchfile::find(file);
-    let answer = found.answer;
-    let head = found.head;
-    let at = found.places;
+    let (answer, BatchFile { head, places }) = match batchfile::find(file) {
+        Ok(found) => (Ok(()), found),
+        Err(refusal) => (
+            Err(refusal),
+            BatchFile {
+                head: FileHead::default(),
+                places: Places::nowhere(file.len()),
+            },
+        ),
+    };
     FileRead {
         answer: answer::number_of(answer),
         width: head.width,
         blocks: head.blocks,
         batch: head.batch,
-        setup: at.setup as u64,
-        head: at.head as u64,
-        correction: at.correction as u64,
-        key: at.key as u64,
-        check: at.check as u64,
+        setup: places.setup as u64,
+        head: places.head as u64,
+        correction: places.correction as u64,
+        key: places.key as u64,
+        check: places.check as u64,
         end: file.len() as u64,
     }
 }
@@ -168,6 +181,17 @@ pub fn softspoken_file_write(
 ) -> u32
     ensures { Numbered (λ answer. WriteFile (head_with width blocks batch) (bodies_with setup.now correction.now key.now check.now) file.old answer file.new) result }
 {
-    let answer = filewriter::write(width, blocks, batch, setup, correction, key, check, file);
+    let head = FileHead {
+        width,
+        blocks,
+        batch,
+    };
+    let bodies = Bodies {
+        setup,
+        correction,
+        key,
+        check,
+    };
+    let answer = filewriter::write(head, bodies, file);
     answer::number_of(answer)
 }

@@ -1,38 +1,38 @@
 // The answer of each step, from the record, the numbers and the lengths of the ranges: a chain of its conditions, in the order of the
 // definitions.
-#![tactic(auto)]
+#![tactic(auto, unfolding(answer::specs::Answer::first_of))]
 
-ghost use Rattle.std.specs.Prelude.{◌≡◌, eqb};
-ghost use Rattle.answer.specs.declared.Answer.TheVariants.{Length};
-ghost use Rattle.answer.specs.Answer.{first_of};
-ghost use Rattle.answer.specs.Next.{next};
+ghost use Rattle.std.specs.Prelude.{◌≡◌, cond, eqb, Err};
+ghost use Rattle.answer.specs.declared.Refusal.TheVariants.{Length};
+ghost use Rattle.answer.specs.Answer.{Done, first_of};
 ghost use Rattle.rules.specs.Orders.{receiver_setup_order, sender_setup_order, session_order, batch_order, start_order, correct_order, end_order, answer_order, before_check};
 
-use answer::Answer;
+use answer::{Refusal, require};
 use rules::Record;
 
 // A range of the length named.
-fn has(so_far: Answer, found: usize, named: usize) -> Answer
-    ensures { result ≡ next (so_far) (eqb found named) Length }
+fn has(found: usize, named: usize) -> Result<(), Refusal>
+    ensures { result ≡ cond (eqb found named) Done (Err Length) }
 {
-    answer::next(so_far, found == named, Answer::Length)
+    require(found == named, Refusal::Length)
 }
 
 // The answer of opening a session.
-pub fn open_session(width: u32) -> Answer
+pub fn open_session(width: u32) -> Result<(), Refusal>
     ensures { result ≡ first_of (session_order width) }
 {
-    answer::next(Answer::Done, sizes::width_allowed(width), Answer::Width)
+    require(sizes::width_allowed(width), Refusal::Width)
 }
 
 // The answer of the receiver's setup.
-pub fn receiver_setup(width: u32, roots: usize, pads: usize, message: usize) -> Answer
+pub fn receiver_setup(width: u32, roots: usize, pads: usize, message: usize) -> Result<(), Refusal>
     ensures { result ≡ first_of (receiver_setup_order width roots pads message) }
 {
-    let mut a = open_session(width);
-    a = has(a, roots, sizes::roots_length(width));
-    a = has(a, pads, sizes::RECEIVER_BASE_PADS_LENGTH);
-    has(a, message, sizes::SETUP_MESSAGE_LENGTH)
+    open_session(width)?;
+    has(roots, sizes::roots_length(width))?;
+    has(pads, sizes::RECEIVER_BASE_PADS_LENGTH)?;
+    has(message, sizes::SETUP_MESSAGE_LENGTH)?;
+    Ok(())
 }
 
 // The answer of the sender's setup.
@@ -42,35 +42,38 @@ pub fn sender_setup(
     pads: usize,
     message: usize,
     siblings: usize,
-) -> Answer
+) -> Result<(), Refusal>
     ensures { result ≡ first_of (sender_setup_order width delta pads message siblings) }
 {
-    let mut a = open_session(width);
-    a = has(a, delta, sizes::DELTA_LENGTH);
-    a = has(a, pads, sizes::SENDER_BASE_PADS_LENGTH);
-    a = has(a, message, sizes::SETUP_MESSAGE_LENGTH);
-    has(a, siblings, sizes::SIBLINGS_LENGTH)
+    open_session(width)?;
+    has(delta, sizes::DELTA_LENGTH)?;
+    has(pads, sizes::SENDER_BASE_PADS_LENGTH)?;
+    has(message, sizes::SETUP_MESSAGE_LENGTH)?;
+    has(siblings, sizes::SIBLINGS_LENGTH)?;
+    Ok(())
 }
 
 // The answer of both steps that open a batch, before their lengths.
-fn open_batch(r: Record, batch: u64, blocks: u32) -> Answer
+fn open_batch(r: Record, batch: u64, blocks: u32) -> Result<(), Refusal>
     ensures { result ≡ first_of (batch_order r batch blocks) }
 {
-    let mut a = open_session(r.width);
-    a = answer::next(a, r.stage == rules::READY, Answer::Stage);
-    a = answer::next(a, rules::batch_follows(r.last, batch), Answer::Batch);
-    answer::next(a, rules::blocks_allowed(blocks), Answer::Blocks)
+    open_session(r.width)?;
+    require(r.stage == rules::READY, Refusal::Stage)?;
+    require(rules::batch_follows(r.last, batch), Refusal::Batch)?;
+    require(rules::blocks_allowed(blocks), Refusal::Blocks)?;
+    Ok(())
 }
 
 // The answer of both steps that end one, before their lengths.
-fn end_batch(r: Record, key: u64) -> Answer
+fn end_batch(r: Record, key: u64) -> Result<(), Refusal>
     ensures { result ≡ first_of (end_order r key) }
 {
-    let mut a = open_session(r.width);
-    a = answer::next(a, r.stage == rules::OPEN, Answer::Stage);
-    a = answer::next(a, 0 < r.last, Answer::Batch);
-    a = answer::next(a, rules::blocks_allowed(r.blocks), Answer::Blocks);
-    answer::next(a, rules::key_usable(key), Answer::Key)
+    open_session(r.width)?;
+    require(r.stage == rules::OPEN, Refusal::Stage)?;
+    require(0 < r.last, Refusal::Batch)?;
+    require(rules::blocks_allowed(r.blocks), Refusal::Blocks)?;
+    require(rules::key_usable(key), Refusal::Key)?;
+    Ok(())
 }
 
 // The answer of the receiver's start.
@@ -82,14 +85,15 @@ pub fn receiver_start(
     choices: usize,
     table: usize,
     correction: usize,
-) -> Answer
+) -> Result<(), Refusal>
     ensures { result ≡ first_of (start_order r batch blocks roots choices table correction) }
 {
-    let mut a = open_batch(r, batch, blocks);
-    a = has(a, roots, sizes::roots_length(r.width));
-    a = has(a, choices, sizes::column_length(blocks));
-    a = has(a, table, sizes::table_length(blocks));
-    has(a, correction, sizes::correction_length(r.width, blocks))
+    open_batch(r, batch, blocks)?;
+    has(roots, sizes::roots_length(r.width))?;
+    has(choices, sizes::column_length(blocks))?;
+    has(table, sizes::table_length(blocks))?;
+    has(correction, sizes::correction_length(r.width, blocks))?;
+    Ok(())
 }
 
 // The answer of the sender's correction.
@@ -101,14 +105,15 @@ pub fn sender_correct(
     delta: usize,
     correction: usize,
     table: usize,
-) -> Answer
+) -> Result<(), Refusal>
     ensures { result ≡ first_of (correct_order r batch blocks siblings delta correction table) }
 {
-    let mut a = open_batch(r, batch, blocks);
-    a = has(a, siblings, sizes::SIBLINGS_LENGTH);
-    a = has(a, delta, sizes::DELTA_LENGTH);
-    a = has(a, correction, sizes::correction_length(r.width, blocks));
-    has(a, table, sizes::table_length(blocks))
+    open_batch(r, batch, blocks)?;
+    has(siblings, sizes::SIBLINGS_LENGTH)?;
+    has(delta, sizes::DELTA_LENGTH)?;
+    has(correction, sizes::correction_length(r.width, blocks))?;
+    has(table, sizes::table_length(blocks))?;
+    Ok(())
 }
 
 // The answer of the receiver's answer.
@@ -119,14 +124,15 @@ pub fn receiver_answer(
     table: usize,
     message: usize,
     pads: usize,
-) -> Answer
+) -> Result<(), Refusal>
     ensures { result ≡ first_of (answer_order r key choices table message pads) }
 {
-    let mut a = end_batch(r, key);
-    a = has(a, choices, sizes::column_length(r.blocks));
-    a = has(a, table, sizes::table_length(r.blocks));
-    a = has(a, message, sizes::CHECK_MESSAGE_LENGTH);
-    has(a, pads, sizes::receiver_pads_length(r.blocks))
+    end_batch(r, key)?;
+    has(choices, sizes::column_length(r.blocks))?;
+    has(table, sizes::table_length(r.blocks))?;
+    has(message, sizes::CHECK_MESSAGE_LENGTH)?;
+    has(pads, sizes::receiver_pads_length(r.blocks))?;
+    Ok(())
 }
 
 // The answer of the sender's verify, up to its check.
@@ -137,12 +143,13 @@ pub fn sender_verify(
     delta: usize,
     message: usize,
     pads: usize,
-) -> Answer
+) -> Result<(), Refusal>
     ensures { result ≡ first_of (before_check r key table delta message pads) }
 {
-    let mut a = end_batch(r, key);
-    a = has(a, table, sizes::table_length(r.blocks));
-    a = has(a, delta, sizes::DELTA_LENGTH);
-    a = has(a, message, sizes::CHECK_MESSAGE_LENGTH);
-    has(a, pads, sizes::sender_pads_length(r.blocks))
+    end_batch(r, key)?;
+    has(table, sizes::table_length(r.blocks))?;
+    has(delta, sizes::DELTA_LENGTH)?;
+    has(message, sizes::CHECK_MESSAGE_LENGTH)?;
+    has(pads, sizes::sender_pads_length(r.blocks))?;
+    Ok(())
 }

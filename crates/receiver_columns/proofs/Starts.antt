@@ -24,7 +24,7 @@ use Rattle.tree.specs.Streams.{byte_of, word_of}
 use Rattle.tree.specs.Layout.{root_of}
 use Rattle.tree.proofs.Streams.{u-lane, column-lane}
 use Rattle.columns.specs.Columns.{u_of, receiver_column}
-use Rattle.columns.proofs.Tables.{not_first, one-fits}
+use Rattle.columns.proofs.Tables.{not_first, one-fits, receiver_column-length}
 
 -- a range that was cleared
 zero-at : (n : ℕ) (zs : List ℕ) → zs ≡ replicate n 0 → (i : ℕ) → get_or zs i 0 ≡ 0
@@ -72,16 +72,9 @@ module _ (k : ℕ) (stream : Stream) (n : ℕ) (roots nodes : List ℕ) (loaded 
       ∙ sym (tabulate-at len byte x h'))
       ∙ ap (λ (r : List ℕ). receiver_column k (byte_of stream) len r b) (loaded l hl)
 
-pub u-length : (k : ℕ) (stream : ℕ → List ℕ → ℕ) (len : ℕ) (root : List ℕ) → length (u_of k stream len root) ≡ len
-unfolding u_of
-u-length k stream len root = tabulate-length len (λ x. u_at k root (λ y leaf. stream x leaf))
-
 -- the columns of a tree
 pub columns-length : (k : ℕ) (stream : ℕ → List ℕ → ℕ) (len : ℕ) (root : List ℕ) → length (concat k (receiver_column k stream len root)) ≡ k * len
-unfolding receiver_column
-columns-length k stream len root =
-    concat-length (receiver_column k stream len root) len k
-    (λ b h. tabulate-length len (λ x. receiver_at k root (λ y leaf. stream x leaf) b))
+columns-length k stream len root = concat-length (receiver_column k stream len root) len k (λ b h. receiver_column-length k stream len root b)
 
 -- from the roots of four trees that begin at tree i, what belongs to them
 pub roots-from : (f : List ℕ → List ℕ) (i : ℕ) (roots : List ℕ)

@@ -1,11 +1,9 @@
 -- What the code of the receiver's start asks of the ranges that it is lent, where a column has len bytes. Assumes nothing.
 use Rattle.std.specs.Prelude.{◌≡◌, ℕ, ◌+◌, ◌-◌, ◌*◌, ◌≤◌, length}
 use Rattle.words.specs.Bytes.{Range}
-use Rattle.tree.specs.Sides.{TreesFit}
 
 -- for n trees of k levels
 pub record StartFits (n k len : ℕ) (roots choices correction table : Range) : Type 0 where
-  pub trees : TreesFit n k
   pub roots-long : length roots ≡ n * 32
   pub choices-long : length choices ≡ len
   pub correction-long : length correction ≡ (n - 1) * len

@@ -10,14 +10,14 @@ ghost use Rattle.columns.specs.Columns.{u_of, choices_of, receiver_column, recei
 ghost use Rattle.columns.specs.Room.{ColumnFits, WorkFits};
 ghost use Rattle.receiver_columns.specs.StartFits.{StartFits, FourStartFits};
 
-use tree::Stream;
+use tree::{Stream, Trees};
 
 // Fills u with the sums of the streams of four trees of k levels, side by side, and v with their columns. They are whole blocks long; a
 // column of len bytes is the first len bytes of a lane.
 fn walk_roots(k: usize, stream: Stream, roots: &[u8], u: &mut [u32], v: &mut [u32])
     requires { (length roots.now ≡ 128) × (length u.old % 64 ≡ 0) × (length u.old ≤ 128) × (0 < length u.old) × (length v.old ≡ k * length u.old) }
-    ensures by_index { (len l : ℕ) → len % 4 ≡ 0 → len ≤ length u.old → l < 4 → lane_bytes l (len / 4) (take len u.new) ≡ u_of k (byte_of stream) len (root_of roots.now l) }
-    ensures by_index_2 { (len l b : ℕ) → len % 4 ≡ 0 → len ≤ length u.old → l < 4 → b < k → lane_bytes l (len / 4) (part (b * length u.old) len v.new) ≡ receiver_column k (byte_of stream) len (root_of roots.now l) b }
+    ensures sums { (len l : ℕ) → len % 4 ≡ 0 → len ≤ length u.old → l < 4 → lane_bytes l (len / 4) (take len u.new) ≡ u_of k (byte_of stream) len (root_of roots.now l) }
+    ensures columns { (len l b : ℕ) → len % 4 ≡ 0 → len ≤ length u.old → l < 4 → b < k → lane_bytes l (len / 4) (part (b * length u.old) len v.new) ≡ receiver_column k (byte_of stream) len (root_of roots.now l) b }
 {
     let mut nodes = [0u32; 32];
     words::load_lanes(&mut nodes, roots);
@@ -46,15 +46,15 @@ fn hand_out_four(i: usize, u: &[u32], choices: &mut [u8], correction: &mut [u8])
     requires { (i ≤ 128) × (length choices.old ≡ length u.now) × (length u.now % 4 ≡ 0) × ((i + 3) * length u.now ≤ length correction.old) }
     ensures { choices.new ++ correction.new ≡ put (choices.old ++ correction.old) (i * length u.now) (concat 4 (λ l. lane_bytes l (length u.now / 4) u.now)) }
 {
-    let mut l = 0;
-    while l < 4 {
+    for l in 0..4 {
         hand_out(i + l, l, u, choices, correction);
-        l += 1;
     }
 }
 
 // The sums u of four trees from tree i on, each where it goes, and their columns, len bytes each. u and v are room to work in, whatever
 // they hold.
+// They stay two slices: of a slice the caller knows that it keeps its length, but of a struct that holds them, lent to be written, each
+// clause would have to say that, and that k and len stay.
 fn four_trees(
     i: usize,
     k: usize,
@@ -77,10 +77,9 @@ fn four_trees(
     columns::store_trees(k, len, u.len(), v, table);
 }
 
-// All n trees. What is left in the correction are the sums u, without the choices.
-fn trees(
-    n: usize,
-    k: usize,
+// All trees. What is left in the correction are the sums u, without the choices.
+fn all_trees(
+    trees: Trees,
     stream: Stream,
     len: usize,
     roots: &[u8],
@@ -90,14 +89,14 @@ fn trees(
     correction: &mut [u8],
     table: &mut [u8],
 )
-    requires work_fits { WorkFits k len u.old v.old }
-    requires start_fits { StartFits n k len roots.now choices.old correction.old table.old }
-    ensures correction_after { choices.new ++ correction.new ≡ concat n (λ i. u_of k (byte_of stream) len (root_of roots.now i)) }
-    ensures table_after { table.new ≡ receiver_table n k (byte_of stream) len roots.now }
+    requires work_fits { WorkFits trees.k len u.old v.old }
+    requires start_fits { StartFits trees.n trees.k len roots.now choices.old correction.old table.old }
+    ensures correction_after { choices.new ++ correction.new ≡ concat trees.n (λ i. u_of trees.k (byte_of stream) len (root_of roots.now i)) }
+    ensures table_after { table.new ≡ receiver_table trees.n trees.k (byte_of stream) len roots.now }
 {
-    let size = k * len;
-    let mut i = 0;
-    while i < n {
+    let size = trees.k * len;
+    for q in 0..trees.n / 4 {
+        let i = 4 * q;
         let next = i + 4;
         let first = i * 32;
         let last = next * 32;
@@ -105,7 +104,7 @@ fn trees(
         let end = next * size;
         four_trees(
             i,
-            k,
+            trees.k,
             stream,
             len,
             &roots[first..last],
@@ -115,14 +114,12 @@ fn trees(
             correction,
             &mut table[start..end],
         );
-        i = next;
     }
 }
 
-// The receiver's start: its choices, its table and the correction, from the roots of n trees of k levels, by a stream.
+// The receiver's start: its choices, its table and the correction, from the roots of the trees, by a stream.
 pub fn start(
-    n: usize,
-    k: usize,
+    trees: Trees,
     stream: Stream,
     roots: &[u8],
     choices: &mut [u8],
@@ -130,19 +127,18 @@ pub fn start(
     correction: &mut [u8],
 )
     requires column_fits { ColumnFits (length choices.old) }
-    requires start_fits { StartFits n k (length choices.old) roots.now choices.old correction.old table.old }
-    ensures choices_after { choices.new ≡ choices_of k (byte_of stream) (length choices.old) roots.now }
-    ensures table_after { table.new ≡ receiver_table n k (byte_of stream) (length choices.old) roots.now }
-    ensures correction_after { correction.new ≡ correction_of n k (byte_of stream) (length choices.old) roots.now }
+    requires start_fits { StartFits trees.n trees.k (length choices.old) roots.now choices.old correction.old table.old }
+    ensures choices_after { choices.new ≡ choices_of trees.k (byte_of stream) (length choices.old) roots.now }
+    ensures table_after { table.new ≡ receiver_table trees.n trees.k (byte_of stream) (length choices.old) roots.now }
+    ensures correction_after { correction.new ≡ correction_of trees.n trees.k (byte_of stream) (length choices.old) roots.now }
 {
     let len = choices.len();
     let room = columns::room(len);
-    let size = k * room;
+    let size = trees.k * room;
     let mut u = [0u32; 128];
     let mut v = [0u32; 1024];
-    trees(
-        n,
-        k,
+    all_trees(
+        trees,
         stream,
         len,
         roots,
@@ -152,5 +148,5 @@ pub fn start(
         correction,
         table,
     );
-    words::xor_parts(correction, n - 1, choices);
+    words::xor_parts(correction, trees.n - 1, choices);
 }

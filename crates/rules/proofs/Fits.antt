@@ -25,7 +25,7 @@ pub record StartTells (r : Record) (blocks roots choices table correction : ℕ)
 pub start_fits : (r : Record) (batch blocks roots choices table correction : ℕ) → is_done (first_of (start_order r batch blocks roots choices table correction)) ≡ true
     → StartTells r blocks roots choices table correction
 start_fits r batch blocks roots choices table correction e =
-    let h = all_hold (start_order r batch blocks roots choices table correction) refl e in
+    let h = all_hold (start_order r batch blocks roots choices table correction) e in
     let blocks-hold = h.1.1.1 in
     let lengths = blocks-hold.1 in
     record {
@@ -49,7 +49,7 @@ pub record CorrectTells (r : Record) (blocks siblings delta correction table : �
 pub correct-fits : (r : Record) (batch blocks siblings delta correction table : ℕ) → is_done (first_of (correct_order r batch blocks siblings delta correction table)) ≡ true
     → CorrectTells r blocks siblings delta correction table
 correct-fits r batch blocks siblings delta correction table e =
-    let h = all_hold (correct_order r batch blocks siblings delta correction table) refl e in
+    let h = all_hold (correct_order r batch blocks siblings delta correction table) e in
     let blocks-hold = h.1.1.1 in
     let lengths = blocks-hold.1 in
     record {
@@ -73,7 +73,7 @@ pub record AnswerTells (r : Record) (key choices table message pads : ℕ) : Typ
 pub answer-fits : (r : Record) (key choices table message pads : ℕ) → is_done (first_of (answer_order r key choices table message pads)) ≡ true
     → AnswerTells r key choices table message pads
 answer-fits r key choices table message pads e =
-    let h = all_hold (answer_order r key choices table message pads) refl e in
+    let h = all_hold (answer_order r key choices table message pads) e in
     let blocks-hold = h.1.1.1 in
     let lengths = blocks-hold.1.1 in
     record {

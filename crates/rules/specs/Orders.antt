@@ -4,8 +4,8 @@ use Rattle.sizes.specs.Sizes.{width_allowed, delta_length, roots_length, receive
 use Rattle.sizes.specs.Sizes.{setup_message_length, siblings_length}
 use Rattle.sizes.specs.Sizes.{column_length, table_length, correction_length, check_message_length, receiver_pads_length, sender_pads_length}
 use Rattle.sizes.specs.Sizes.{head_length, short_head_length, key_length}
-use Rattle.answer.specs.declared.Answer.{Answer}
-use Rattle.answer.specs.declared.Answer.TheVariants.{Width, Stage, Batch, Blocks, Length, Check, Body, Key}
+use Rattle.answer.specs.declared.Refusal.{Refusal}
+use Rattle.answer.specs.declared.Refusal.TheVariants.{Width, Stage, Batch, Blocks, Length, Check, Body, Key}
 use Rattle.answer.specs.Answer.{Order}
 use Rattle.rules.specs.declared.Record.{Record}
 
@@ -55,7 +55,7 @@ abbrev pub key_usable : (key : ℕ) → Bool
 key_usable key = leb 2 key
 
 -- 5 if a byte range, which enters by its length, has any but the one named
-abbrev pub has : (found named : ℕ) → Bool × Answer
+abbrev pub has : (found named : ℕ) → Bool × Refusal
 has found named = (eqb found named, Length)
 
 -- ---- the setups, and opening a session

@@ -16,6 +16,7 @@ pub struct Record {
     pub stage: u32,
 }
 
+// A stage is a number and no enum: C keeps the record, and may hand over one that holds any.
 pub const READY: u32 = 0;
 
 pub const OPEN: u32 = 1;
@@ -24,51 +25,50 @@ const CLOSED: u32 = 2;
 
 pub const MOST_BLOCKS: u32 = 15;
 
-// The record of a session that is opened.
-pub fn new_record(width: u32) -> Record
-    ensures { result ≡ new_record width }
-{
-    Record {
-        width,
-        blocks: 0,
-        last: 0,
-        stage: READY,
+impl Record {
+    // The record of a session that is opened.
+    pub fn new(width: u32) -> Self
+        ensures { result ≡ new_record width }
+    {
+        Record {
+            width,
+            blocks: 0,
+            last: 0,
+            stage: READY,
+        }
     }
-}
 
-// The record of a batch that is opened.
-pub fn with_batch(r: Record, batch: u64, blocks: u32) -> Record
-    ensures { result ≡ with_batch r batch blocks }
-{
-    Record {
-        width: r.width,
-        blocks,
-        last: batch,
-        stage: OPEN,
+    // After a batch is opened.
+    pub fn with_batch(self, batch: u64, blocks: u32) -> Self
+        ensures { result ≡ with_batch self batch blocks }
+    {
+        Record {
+            blocks,
+            last: batch,
+            stage: OPEN,
+            ..self
+        }
     }
-}
 
-// And of one that is ended.
-pub fn without_batch(r: Record) -> Record
-    ensures { result ≡ without_batch r }
-{
-    Record {
-        width: r.width,
-        blocks: 0,
-        last: r.last,
-        stage: READY,
+    // After it is ended.
+    pub fn without_batch(self) -> Self
+        ensures { result ≡ without_batch self }
+    {
+        Record {
+            blocks: 0,
+            stage: READY,
+            ..self
+        }
     }
-}
 
-// And of a session whose check failed.
-pub fn closed(r: Record) -> Record
-    ensures { result ≡ closed r }
-{
-    Record {
-        width: r.width,
-        blocks: r.blocks,
-        last: r.last,
-        stage: CLOSED,
+    // After its check failed.
+    pub fn closed(self) -> Self
+        ensures { result ≡ closed self }
+    {
+        Record {
+            stage: CLOSED,
+            ..self
+        }
     }
 }
 
@@ -76,20 +76,14 @@ pub fn closed(r: Record) -> Record
 pub fn blocks_allowed(blocks: u32) -> bool
     ensures { result ≡ blocks_allowed blocks }
 {
-    if blocks < 1 {
-        return false;
-    }
-    blocks <= MOST_BLOCKS
+    (1..=MOST_BLOCKS).contains(&blocks)
 }
 
 // Whether a batch number may follow the last.
 pub fn batch_follows(last: u64, batch: u64) -> bool
     ensures { result ≡ batch_follows last batch }
 {
-    if batch == 0 {
-        return false;
-    }
-    last < batch
+    0 < batch && last < batch
 }
 
 // Whether a key is usable: with 0 the fold sees only the last word, and with 1 it can't tell one word from another.

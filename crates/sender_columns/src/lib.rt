@@ -8,13 +8,13 @@ ghost use Rattle.words.specs.Lanes.{lane_bytes};
 ghost use Rattle.words.specs.Xor.{xor_each};
 ghost use Rattle.tree.specs.WalkWords.{u_word};
 ghost use Rattle.tree.specs.Layout.{tree_part};
-ghost use Rattle.tree.specs.Sides.{sides_of, Sides, TreesFit};
+ghost use Rattle.tree.specs.Sides.{sides_of, Sides};
 ghost use Rattle.tree.specs.Streams.{byte_of, word_of};
 ghost use Rattle.columns.specs.Columns.{sender_column, sender_table, tree_correction};
 ghost use Rattle.columns.specs.Room.{ColumnFits, WorkFits};
 ghost use Rattle.sender_columns.specs.FourTrees.{PathsFit, TableFits, FourTableFits, SidesAre, SenderLanes, LaneHas, level_added};
 
-use tree::Stream;
+use tree::{Stream, Trees};
 
 // Adds u to v in the lanes whose side is 1.
 fn add_where(v: &mut [u32], u: &[u32], sides: [u8; 4])
@@ -25,8 +25,8 @@ fn add_where(v: &mut [u32], u: &[u32], sides: [u8; 4])
     let m1 = tree::side::mask(sides[1]);
     let m2 = tree::side::mask(sides[2]);
     let m3 = tree::side::mask(sides[3]);
-    let mut i = 0;
-    while i < u.len() {
+    for q in 0..u.len() / 4 {
+        let i = 4 * q;
         let a = v[i] ^ (u[i] & m0);
         let b = v[i + 1] ^ (u[i + 1] & m1);
         let c = v[i + 2] ^ (u[i + 2] & m2);
@@ -35,7 +35,6 @@ fn add_where(v: &mut [u32], u: &[u32], sides: [u8; 4])
         v[i + 1] = b;
         v[i + 2] = c;
         v[i + 3] = d;
-        i += 4;
     }
 }
 
@@ -71,10 +70,8 @@ fn add_levels(k: usize, stream: Stream, sides: &[u8], s: &[u32], u: &mut [u32], 
     requires u_len { (length u.old % 64 ≡ 0) × (length u.old ≤ 512) × (0 < length u.old) × (length v.old ≡ k * length u.old) × ((i : ℕ) → get_or v.old i 0 ≡ 0) }
     ensures { (d : ℕ → ℕ) → SidesAre k sides.now d → SenderLanes k stream (length u.old) d s.now u.old v.new }
 {
-    let mut level = 0;
-    while level < k {
+    for level in 0..k {
         add_level(k, level, stream, sides, s, u, v);
-        level += 1;
     }
 }
 
@@ -84,50 +81,26 @@ fn load_lane(t: &mut [u32], l: usize, s: &[u8])
     ensures t_after { lane_bytes l (length t.old / 4) t.new ≡ s.now }
     ensures by_index { (m : ℕ) → m < 4 → (m ≡ l → ⊥) → lane_bytes m (length t.old / 4) t.new ≡ lane_bytes m (length t.old / 4) t.old }
 {
-    let n = t.len();
-    let mut i = 0;
-    while i < n {
+    for q in 0..t.len() / 4 {
+        let i = 4 * q;
         t[i + l] = words::load32(s, i);
-        i += 4;
     }
 }
 
-// Loads the correction of tree i into lane l of u, which is zero. Tree 0 has none; those of the others stand one after the other.
-fn load_correction(i: usize, correction: &[u8], u: &mut [u32], l: usize)
-    requires { (l < 4) × (length u.old % 4 ≡ 0) × (i * length u.old ≤ length correction.now) × LaneHas (length u.old) l [] u.old }
-    ensures lane_has { LaneHas (length u.old) l (tree_correction (length u.old) correction.now i) u.new }
-    ensures by_index { (m : ℕ) → m < 4 → (m ≡ l → ⊥) → lane_bytes m (length u.old / 4) u.new ≡ lane_bytes m (length u.old / 4) u.old }
-{
-    if i > 0 {
-        let end = i * u.len();
-        let at = end - u.len();
-        load_lane(u, l, &correction[at..end]);
-    }
-}
-
-// The same for four trees from tree i on, tree by tree.
-fn load_each(i: usize, correction: &[u8], u: &mut [u32])
-    requires { (i ≤ 128) × (length u.old % 4 ≡ 0) × ((i + 3) * length u.old ≤ length correction.now) × ((j : ℕ) → get_or u.old j 0 ≡ 0) }
-    ensures { (l : ℕ) → l < 4 → LaneHas (length u.old) l (tree_correction (length u.old) correction.now (i + l)) u.new }
-{
-    let mut l = 0;
-    while l < 4 {
-        load_correction(i + l, correction, u, l);
-        l += 1;
-    }
-}
-
-// The same; where each of the four trees has a correction, all at once.
+// Loads the corrections of four trees from tree i on into the lanes of u, which is zero. Tree 0 has none; those of the others stand one after
+// the other, so from a later tree on all four are loaded at once.
 fn load_corrections(i: usize, correction: &[u8], u: &mut [u32])
     requires { (i ≤ 128) × (length u.old % 4 ≡ 0) × ((i + 3) * length u.old ≤ length correction.now) × ((j : ℕ) → get_or u.old j 0 ≡ 0) }
     ensures { (l : ℕ) → l < 4 → LaneHas (length u.old) l (tree_correction (length u.old) correction.now (i + l)) u.new }
 {
+    let len = u.len();
     if i == 0 {
-        load_each(i, correction, u);
+        for l in 1..4 {
+            let end = l * len;
+            load_lane(u, l, &correction[end - len..end]);
+        }
     } else {
-        let start = (i - 1) * u.len();
-        let end = (i + 3) * u.len();
-        words::load_lanes(u, &correction[start..end]);
+        words::load_lanes(u, &correction[(i - 1) * len..(i + 3) * len]);
     }
 }
 
@@ -158,92 +131,52 @@ fn four_trees(
     columns::store_trees(k, len, u.len(), v, table);
 }
 
-// The columns of all n trees, worked out in s, u and v. sides has a side for each base transfer.
+// The columns of all trees. sides has a side for each base transfer.
 fn all_trees(
-    n: usize,
-    k: usize,
+    trees: Trees,
     stream: Stream,
     len: usize,
     sides: &[u8],
     siblings: &[u8],
     correction: &[u8],
-    s: &mut [u32],
-    u: &mut [u32],
-    v: &mut [u32],
     table: &mut [u8],
 )
-    requires trees_fit { TreesFit n k × PathsFit n k sides.now siblings.now × TableFits n k len correction.now table.old }
-    requires s_len { (length s.old ≡ 32 * k) × WorkFits k len u.old v.old }
-    ensures { (delta : List ℕ) → sides.now ≡ sides_of (n * k) k delta → table.new ≡ sender_table n k (byte_of stream) len siblings.now delta (tree_correction len correction.now) }
+    requires trees_fit { PathsFit trees.n trees.k sides.now siblings.now × TableFits trees.n trees.k len correction.now table.old }
+    requires column_fits { ColumnFits len }
+    ensures { (delta : List ℕ) → sides.now ≡ sides_of (trees.n * trees.k) trees.k delta → table.new ≡ sender_table trees.n trees.k (byte_of stream) len siblings.now delta (tree_correction len correction.now) }
 {
+    let k = trees.k;
     let size = 32 * k;
     let wide = k * len;
-    let mut i = 0;
-    while i < n {
+    let room = columns::room(len);
+    let mut nodes = [0u32; 256];
+    let mut sums = [0u32; 128];
+    let mut cells = [0u32; 1024];
+    let s = &mut nodes[0..size];
+    let u = &mut sums[0..room];
+    let v = &mut cells[0..k * room];
+    for q in 0..trees.n / 4 {
+        let i = 4 * q;
         let next = i + 4;
-        let first = i * k;
-        let last = next * k;
-        let from = i * size;
-        let to = next * size;
-        let start = i * wide;
-        let end = next * wide;
         four_trees(
             i,
             k,
             stream,
             len,
-            &sides[first..last],
-            &siblings[from..to],
+            &sides[i * k..next * k],
+            &siblings[i * size..next * size],
             correction,
             s,
             u,
             v,
-            &mut table[start..end],
+            &mut table[i * wide..next * wide],
         );
-        i = next;
     }
 }
 
-// The same, with room of its own.
-fn all_columns(
-    n: usize,
-    k: usize,
-    stream: Stream,
-    len: usize,
-    sides: &[u8],
-    siblings: &[u8],
-    correction: &[u8],
-    table: &mut [u8],
-)
-    requires trees_fit { TreesFit n k × PathsFit n k sides.now siblings.now × TableFits n k len correction.now table.old }
-    requires column_fits { ColumnFits len }
-    ensures { (delta : List ℕ) → sides.now ≡ sides_of (n * k) k delta → table.new ≡ sender_table n k (byte_of stream) len siblings.now delta (tree_correction len correction.now) }
-{
-    let size = 32 * k;
-    let room = columns::room(len);
-    let wide = k * room;
-    let mut s = [0u32; 256];
-    let mut u = [0u32; 128];
-    let mut v = [0u32; 1024];
-    all_trees(
-        n,
-        k,
-        stream,
-        len,
-        sides,
-        siblings,
-        correction,
-        &mut s[0..size],
-        &mut u[0..room],
-        &mut v[0..wide],
-        table,
-    );
-}
-
-// The sender's table of n trees of k levels, by a stream, whose columns have len bytes.
+// The sender's table, by a stream, whose columns have len bytes.
 pub fn correct(
-    n: usize,
-    k: usize,
+    trees: Trees,
     stream: Stream,
     len: usize,
     siblings: &[u8],
@@ -251,21 +184,12 @@ pub fn correct(
     correction: &[u8],
     table: &mut [u8],
 )
-    requires trees_fit { TreesFit n k × (n * k ≤ 8 * length delta.now) × (length siblings.now ≡ n * (32 * k)) × TableFits n k len correction.now table.old }
+    requires trees_fit { (trees.n * trees.k ≤ 8 * length delta.now) × (length siblings.now ≡ trees.n * (32 * trees.k)) × TableFits trees.n trees.k len correction.now table.old }
     requires column_fits { ColumnFits len }
-    ensures { table.new ≡ sender_table n k (byte_of stream) len siblings.now delta.now (tree_correction len correction.now) }
+    ensures { table.new ≡ sender_table trees.n trees.k (byte_of stream) len siblings.now delta.now (tree_correction len correction.now) }
 {
-    let transfers = n * k;
-    let mut sides = [0u8; sizes::COLUMNS];
-    tree::side::all(k, delta, &mut sides[0..transfers]);
-    all_columns(
-        n,
-        k,
-        stream,
-        len,
-        &sides[0..transfers],
-        siblings,
-        correction,
-        table,
-    );
+    let mut room = [0u8; sizes::COLUMNS];
+    let sides = &mut room[0..trees.n * trees.k];
+    tree::side::all(trees.k, delta, sides);
+    all_trees(trees, stream, len, sides, siblings, correction, table);
 }

@@ -6,8 +6,7 @@ use Rattle.sizes.specs.Sizes.{columns, trees_of, column_length}
 use Rattle.columns.specs.Columns.{choices_of, receiver_table, correction_of, tree_correction, sender_table}
 use Rattle.consistency.specs.Message.{check_message, accepts}
 use Rattle.pads.specs.Pads.{receiver_pads, sender_pads}
-use Rattle.answer.specs.declared.Answer.{Answer}
-use Rattle.answer.specs.Answer.{first_of, when_done, when_failed}
+use Rattle.answer.specs.Answer.{Answer, first_of, when_done, when_failed}
 use Rattle.rules.specs.declared.Record.{Record}
 use Rattle.rules.specs.Orders.{new_record, with_batch, without_batch, closed}
 use Rattle.rules.specs.Orders.{session_order, start_order, correct_order, answer_order, verify_order}

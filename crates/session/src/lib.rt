@@ -6,14 +6,14 @@ ghost use Rattle.tree.specs.Tree.{stream_byte};
 ghost use Rattle.tree.specs.Streams.{byte_of};
 ghost use Rattle.session.specs.Steps.{OpenSession, ReceiverStart, SenderCorrect, ReceiverAnswer, SenderVerify};
 
-use answer::Answer;
+use answer::Refusal;
 use rules::Record;
-use tree::Stream;
+use tree::{Stream, Trees};
 
-// What a step gives back: its answer, and the record after it.
+// What a step gives back: its answer, and the record after it. The record comes with a refusal too, since a failed check closes it.
 #[derive(Clone, Copy)]
 pub struct Stepped {
-    pub answer: Answer,
+    pub answer: Result<(), Refusal>,
     pub record: Record,
 }
 
@@ -22,12 +22,12 @@ pub fn open(r: Record, width: u32) -> Stepped
     ensures { OpenSession r width result.answer result.record }
 {
     let answer = orders::open_session(width);
-    if answer::is_done(answer) {
-        let record = rules::new_record(width);
-        Stepped { answer, record }
+    let record = if answer.is_ok() {
+        Record::new(width)
     } else {
-        Stepped { answer, record: r }
-    }
+        r
+    };
+    Stepped { answer, record }
 }
 
 // What the streams of a batch are drawn by: of each leaf, the stream of that batch.
@@ -58,22 +58,13 @@ pub fn receiver_start(
         table.len(),
         correction.len(),
     );
-    if answer::is_done(answer) {
-        let n = sizes::trees_of(r.width);
-        receiver_columns::start(
-            n,
-            r.width as usize,
-            stream_of(batch),
-            roots,
-            choices,
-            table,
-            correction,
-        );
-        let record = rules::with_batch(r, batch, blocks);
-        Stepped { answer, record }
-    } else {
-        Stepped { answer, record: r }
+    if answer.is_err() {
+        return Stepped { answer, record: r };
     }
+    let trees = Trees::of(r.width);
+    receiver_columns::start(trees, stream_of(batch), roots, choices, table, correction);
+    let record = r.with_batch(batch, blocks);
+    Stepped { answer, record }
 }
 
 // The sender's correction: its table of a new batch, from the correction that it received.
@@ -97,24 +88,23 @@ pub fn sender_correct(
         correction.len(),
         table.len(),
     );
-    if answer::is_done(answer) {
-        let len = sizes::column_length(blocks);
-        let n = sizes::trees_of(r.width);
-        sender_columns::correct(
-            n,
-            r.width as usize,
-            stream_of(batch),
-            len,
-            siblings,
-            delta,
-            correction,
-            table,
-        );
-        let record = rules::with_batch(r, batch, blocks);
-        Stepped { answer, record }
-    } else {
-        Stepped { answer, record: r }
+    if answer.is_err() {
+        return Stepped { answer, record: r };
     }
+    let len = sizes::column_length(blocks);
+    let n = sizes::trees_of(r.width);
+    sender_columns::correct(
+        n,
+        r.width as usize,
+        stream_of(batch),
+        len,
+        siblings,
+        delta,
+        correction,
+        table,
+    );
+    let record = r.with_batch(batch, blocks);
+    Stepped { answer, record }
 }
 
 // The receiver's answer: the check message under the sender's key, and the receiver's pads.
@@ -136,14 +126,13 @@ pub fn receiver_answer(
         message.len(),
         pads.len(),
     );
-    if answer::is_done(answer) {
-        consistency::write_message(sizes::COLUMNS, key, choices, table, message);
-        pads::receiver_pads(r.blocks as usize, r.last, table, pads);
-        let record = rules::without_batch(r);
-        Stepped { answer, record }
-    } else {
-        Stepped { answer, record: r }
+    if answer.is_err() {
+        return Stepped { answer, record: r };
     }
+    consistency::write_message(sizes::COLUMNS, key, choices, table, message);
+    pads::receiver_pads(r.blocks as usize, r.last, table, pads);
+    let record = r.without_batch();
+    Stepped { answer, record }
 }
 
 // The sender's verify: the check of the receiver's message under the key that the sender chose, and the sender's pads.
@@ -158,20 +147,18 @@ pub fn sender_verify(
     ensures { SenderVerify r key table.now delta.now message.now pads.old result.answer result.record pads.new }
 {
     let answer = orders::sender_verify(r, key, table.len(), delta.len(), message.len(), pads.len());
-    if answer::is_done(answer) {
-        let len = sizes::column_length(r.blocks);
-        if consistency::accepts(sizes::COLUMNS, len, key, table, delta, message) {
-            pads::sender_pads(r.blocks as usize, r.last, table, delta, pads);
-            let record = rules::without_batch(r);
-            Stepped { answer, record }
-        } else {
-            let record = rules::closed(r);
-            Stepped {
-                answer: Answer::Check,
-                record,
-            }
-        }
-    } else {
-        Stepped { answer, record: r }
+    if answer.is_err() {
+        return Stepped { answer, record: r };
     }
+    let len = sizes::column_length(r.blocks);
+    if !consistency::accepts(sizes::COLUMNS, len, key, table, delta, message) {
+        let record = r.closed();
+        return Stepped {
+            answer: Err(Refusal::Check),
+            record,
+        };
+    }
+    pads::sender_pads(r.blocks as usize, r.last, table, delta, pads);
+    let record = r.without_batch();
+    Stepped { answer, record }
 }

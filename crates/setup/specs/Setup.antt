@@ -7,8 +7,7 @@ use Rattle.tree.specs.Tree.{child_of, sum_below, total_of}
 use Rattle.tree.specs.Path.{sibling_node, side_of}
 use Rattle.sizes.specs.Sizes.{trees_of}
 use Rattle.tree.specs.Layout.{root_of, delta_of, tree_part}
-use Rattle.answer.specs.declared.Answer.{Answer}
-use Rattle.answer.specs.Answer.{first_of, when_done}
+use Rattle.answer.specs.Answer.{Answer, first_of, when_done}
 use Rattle.rules.specs.Orders.{receiver_setup_order, sender_setup_order}
 
 -- ---- the receiver

@@ -6,18 +6,21 @@ mod sender;
 
 ghost use Rattle.setup.specs.Setup.{ReceiverSetup, SenderSetup};
 
-use answer::Answer;
+use answer::Refusal;
+use tree::Trees;
 
 // The receiver's setup: the totals of its trees, masked by the base pads.
-pub fn receiver_setup(width: u32, roots: &[u8], base_pads: &[u8], message: &mut [u8]) -> Answer
+pub fn receiver_setup(
+    width: u32,
+    roots: &[u8],
+    base_pads: &[u8],
+    message: &mut [u8],
+) -> Result<(), Refusal>
     ensures { ReceiverSetup width roots.now base_pads.now message.old result message.new }
 {
-    let answer = orders::receiver_setup(width, roots.len(), base_pads.len(), message.len());
-    if answer::is_done(answer) {
-        let n = sizes::trees_of(width);
-        receiver::write_message(n, width as usize, roots, base_pads, message);
-    }
-    answer
+    orders::receiver_setup(width, roots.len(), base_pads.len(), message.len())?;
+    receiver::write_message(Trees::of(width), roots, base_pads, message);
+    Ok(())
 }
 
 // The sender's setup: the nodes beside the paths of delta, from the pads that it has and a message.
@@ -27,19 +30,16 @@ pub fn sender_setup(
     base_pads: &[u8],
     message: &[u8],
     siblings: &mut [u8],
-) -> Answer
+) -> Result<(), Refusal>
     ensures { SenderSetup width delta.now base_pads.now message.now siblings.old result siblings.new }
 {
-    let answer = orders::sender_setup(
+    orders::sender_setup(
         width,
         delta.len(),
         base_pads.len(),
         message.len(),
         siblings.len(),
-    );
-    if answer::is_done(answer) {
-        let n = sizes::trees_of(width);
-        sender::find_siblings(n, width as usize, delta, base_pads, message, siblings);
-    }
-    answer
+    )?;
+    sender::find_siblings(Trees::of(width), delta, base_pads, message, siblings);
+    Ok(())
 }

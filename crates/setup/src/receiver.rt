@@ -2,8 +2,9 @@
 ghost use Rattle.std.specs.Prelude.{◌≡◌, ◌*◌, ◌≤◌, length};
 ghost use Rattle.words.specs.Bytes.{concat};
 ghost use Rattle.tree.specs.Layout.{root_of, tree_part};
-ghost use Rattle.tree.specs.Sides.{TreesFit};
 ghost use Rattle.setup.specs.Setup.{tree_message, message_of};
+
+use tree::Trees;
 
 // The messages of four trees of k levels, from their roots and base pads.
 fn four_messages(k: usize, roots: &[u8], pads: &[u8], message: &mut [u8])
@@ -19,25 +20,22 @@ fn four_messages(k: usize, roots: &[u8], pads: &[u8], message: &mut [u8])
     words::xor_into(message, pads);
 }
 
-// The message of n trees of k levels.
-pub fn write_message(n: usize, k: usize, roots: &[u8], pads: &[u8], message: &mut [u8])
-    requires { TreesFit n k × (length roots.now ≡ n * 32) × (length pads.now ≡ n * (64 * k)) × (length message.old ≡ n * (64 * k)) }
-    ensures { message.new ≡ message_of n k roots.now pads.now }
+// The message of all trees.
+pub fn write_message(trees: Trees, roots: &[u8], pads: &[u8], message: &mut [u8])
+    requires { (length roots.now ≡ trees.n * 32) × (length pads.now ≡ trees.n * (64 * trees.k)) × (length message.old ≡ trees.n * (64 * trees.k)) }
+    ensures { message.new ≡ message_of trees.n trees.k roots.now pads.now }
 {
-    let size = 64 * k;
-    let mut i = 0;
-    while i < n {
+    let size = 64 * trees.k;
+    for q in 0..trees.n / 4 {
+        let i = 4 * q;
         let next = i + 4;
         let start = i * size;
         let end = next * size;
-        let first = i * 32;
-        let last = next * 32;
         four_messages(
-            k,
-            &roots[first..last],
+            trees.k,
+            &roots[i * 32..next * 32],
             &pads[start..end],
             &mut message[start..end],
         );
-        i = next;
     }
 }

@@ -12,8 +12,7 @@ use Rattle.sizes.specs.Sizes.{width_allowed, columns, trees_of, delta_length, ro
 use Rattle.sizes.specs.Sizes.{column_length, sender_pads_length}
 use Rattle.tree.specs.Tree.{stream_byte}
 use Rattle.tree.proofs.Streams.{stream-lt}
-use Rattle.answer.specs.declared.Answer.TheVariants.{Done}
-use Rattle.answer.specs.Answer.{is_done}
+use Rattle.answer.specs.Answer.{Done, is_done}
 use Rattle.answer.proofs.Order.{apart}
 use Rattle.columns.proofs.Tables.{correction_of-length}
 use Rattle.columns.proofs.Bounds.{correction_of-bytes}

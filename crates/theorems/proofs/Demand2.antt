@@ -9,15 +9,15 @@ use native.Mathlib.Omega.{arith}
 use lib.ListN.{length, get_or, take, length-append}
 use lib.Seq.{take_at, take_all, drop_at}
 use borrow.Author.Tests.{eq-eqb, lt-ltb}
+use Rattle.std.specs.Prelude.{Err}
 use Rattle.words.specs.Bytes.{part}
 use Rattle.words.specs.Bits.{bit_at}
 use Rattle.words.specs.Xor.{xor_list, scale}
 use Rattle.words.proofs.Xor.{digit, bit-lt}
 use Rattle.words.proofs.Lists.{xor_each-cancel, xor_each-zero, zeros-at, scale-zero, scale_one}
 use Rattle.words.proofs.Concat.{concat-part, part-part}
-use Rattle.answer.specs.declared.Answer.{Answer}
-use Rattle.answer.specs.declared.Answer.TheVariants.{Done, Check}
-use Rattle.answer.specs.Answer.{when_done, Order, first_of}
+use Rattle.answer.specs.declared.Refusal.TheVariants.{Check}
+use Rattle.answer.specs.Answer.{Answer, Done, when_done, Order, first_of}
 use Rattle.answer.proofs.Order.{AllHold, hold-more, done-when, last-decides}
 use Rattle.sizes.specs.Sizes.{width_allowed, columns, trees_of, column_length, delta_length, roots_length, siblings_length, table_length, correction_length, check_message_length, receiver_pads_length, sender_pads_length}
 use Rattle.sizes.proofs.Widths.{Fits, width_fits}
@@ -161,7 +161,7 @@ check-decides q key table delta message pads pads' answer q' verified hold =
     verdict : Bool
     verdict = accepts columns (column_length q.blocks) key table delta message
 
-    either_way : (x : Bool) → answer ≡ cond x Done Check → Unrefused answer
+    either_way : (x : Bool) → answer ≡ cond x Done (Err Check) → Unrefused answer
     either_way true e = inl e
     either_way false e = inr e
 

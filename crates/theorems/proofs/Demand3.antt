@@ -10,6 +10,7 @@ use lib.Arith.{digits_div}
 use lib.Dec.{eqb}
 use lib.ListN.{length}
 use borrow.Author.Tests.{eqb-true, eq-eqb}
+use Rattle.std.specs.Prelude.{Err}
 use Rattle.words.specs.Bits.{bit_at}
 use Rattle.words.proofs.Xor.{digit, bit-lt}
 use Rattle.words.proofs.Sums.{of_bits-same}
@@ -17,9 +18,8 @@ use Rattle.words.proofs.Concat.{place-fits}
 use Rattle.sizes.specs.Sizes.{columns, trees_of, column_length, correction_length, table_length}
 use Rattle.sizes.proofs.Widths.{Fits, width_fits}
 use Rattle.tree.specs.Tree.{stream_byte}
-use Rattle.answer.specs.declared.Answer.{Answer}
-use Rattle.answer.specs.declared.Answer.TheVariants.{Done, Check}
-use Rattle.answer.specs.Answer.{number, is_done, Order, when_done, when_failed}
+use Rattle.answer.specs.declared.Refusal.TheVariants.{Check}
+use Rattle.answer.specs.Answer.{Answer, Done, number, is_done, Order, when_done, when_failed}
 use Rattle.answer.proofs.Order.{apart, AllHold, reached, last-decides}
 use Rattle.setup.specs.Setup.{beside_paths}
 use Rattle.setup.proofs.Answers.{receiver-fits}
@@ -39,7 +39,7 @@ use Rattle.errors.proofs.Column.{column-law}
 
 -- neither done nor a failed check
 abbrev refusal : Answer → Bool
-refusal a = not (is_done a) && not (eqb (number a) (number Check))
+refusal a = not (is_done a) && not (eqb (number a) (number (Err Check)))
 
 unrefused-is : (a : Answer) → Unrefused a → refusal a ≡ false
 unrefused-is a (inl e) = ap refusal e
@@ -90,7 +90,7 @@ module _ (s : Sent) (delta : List ℕ) (run : Run s delta) where
         ap (λ (c : ℕ). c * len) width.columns,
       )
 
-  decided : (x : Bool) → accepts columns len s.key run.table' delta s.message ≡ x → run.answer ≡ cond x Done Check
+  decided : (x : Bool) → accepts columns len s.key run.table' delta s.message ≡ x → run.answer ≡ cond x Done (Err Check)
       → run.q.blocks ≡ s.blocks → Accepts s delta run ⊎ Closes s delta run
   unfolding accepts
   decided true e a same = inl record {

@@ -8,14 +8,14 @@ use native.Mathlib.Omega.{arith}
 use lib.Dec.{eqb, ltb}
 use lib.ListN.{length, replicate}
 use borrow.Author.Tests.{eq-eqb, ne_eqb, lt-ltb, le-ltb}
+use Rattle.std.specs.Prelude.{Err}
 use Rattle.words.specs.Bytes.{Range, little_endian, part}
 use Rattle.words.specs.Xor.{xor_list}
 use Rattle.words.proofs.Lists.{scale-zero, scale_one}
 use Rattle.sizes.specs.Sizes.{width_allowed, columns, column_length, correction_length, file_length}
 use Rattle.sizes.specs.Sizes.{delta_length, roots_length, siblings_length, table_length}
-use Rattle.answer.specs.declared.Answer.{Answer}
-use Rattle.answer.specs.declared.Answer.TheVariants.{Done, Width, Stage, Batch, Blocks, Check, Body, Key}
-use Rattle.answer.specs.Answer.{is_done, Order, first_of}
+use Rattle.answer.specs.declared.Refusal.TheVariants.{Width, Stage, Batch, Blocks, Check, Body, Key}
+use Rattle.answer.specs.Answer.{Answer, Done, is_done, Order, first_of}
 use Rattle.answer.proofs.Order.{AllHold, refused-at, reached}
 use Rattle.rows.specs.Row.{row_of}
 use Rattle.pads.specs.Pads.{pad_of, sender_pads}
@@ -131,20 +131,20 @@ written-lengths = (refl, refl, refl)
 
 -- width 3, with whatever else: 1. Of a session's steps, by its record, whatever is asked after it
 pub width_three : (r : Record) (rest : Order) → r.width ≡ 3
-    → ((batch blocks : ℕ) → first_of (batch_order r batch blocks ++ rest) ≡ Width) × ((key : ℕ) → first_of (end_order r key ++ rest) ≡ Width)
+    → ((batch blocks : ℕ) → first_of (batch_order r batch blocks ++ rest) ≡ Err Width) × ((key : ℕ) → first_of (end_order r key ++ rest) ≡ Err Width)
 unfolding width_allowed
 width_three r rest e = (λ batch blocks. refused-at [] _ (width_allowed r.width) Width tt (ap width_allowed e), λ key. refused-at [] _ (width_allowed r.width) Width tt (ap width_allowed e))
 
 -- and of the steps that are given one: both setups, and opening
 pub width-three-given : (roots pads message delta siblings : ℕ)
-    → (first_of (receiver_setup_order 3 roots pads message) ≡ Width) × (first_of (sender_setup_order 3 delta pads message siblings) ≡ Width)
-    × (first_of (session_order 3) ≡ Width)
+    → (first_of (receiver_setup_order 3 roots pads message) ≡ Err Width) × (first_of (sender_setup_order 3 delta pads message siblings) ≡ Err Width)
+    × (first_of (session_order 3) ≡ Err Width)
 unfolding width_allowed first_of
 width-three-given roots pads message delta siblings = (refl, refl, refl)
 
 module _ (r : Record) (batch : ℕ) (rest : Order) (allowed : width_allowed r.width ≡ true) (ready : r.stage ≡ stage_ready) where
   -- last 2^64 - 1, to which paper 02, note 3 moves the case at the highest number: each start gets 3
-  pub last-of-all : (blocks : ℕ) → r.last ≡ 18446744073709551615 → batch < 2 ^ 64 → first_of (batch_order r batch blocks ++ rest) ≡ Batch
+  pub last-of-all : (blocks : ℕ) → r.last ≡ 18446744073709551615 → batch < 2 ^ 64 → first_of (batch_order r batch blocks ++ rest) ≡ Err Batch
   last-of-all blocks e h =
       refused-at ((width_allowed r.width, Width) ∷ (eqb r.stage stage_ready, Stage) ∷ []) ((blocks_allowed blocks, Blocks) ∷ rest)
       (batch_follows r.last batch) Batch (allowed, (eq-eqb _ _ ready, tt))
@@ -155,10 +155,10 @@ module _ (r : Record) (batch : ℕ) (rest : Order) (allowed : width_allowed r.wi
       not-above false q = refl
 
   -- P 0 or 16: 4, at the start
-  pub blocks-outside : r.last < batch → (first_of (batch_order r batch 0 ++ rest) ≡ Blocks) × (first_of (batch_order r batch 16 ++ rest) ≡ Blocks)
+  pub blocks-outside : r.last < batch → (first_of (batch_order r batch 0 ++ rest) ≡ Err Blocks) × (first_of (batch_order r batch 16 ++ rest) ≡ Err Blocks)
   blocks-outside next = (outside 0 refl, outside 16 refl)
     where
-      outside : (blocks : ℕ) → blocks_allowed blocks ≡ false → first_of (batch_order r batch blocks ++ rest) ≡ Blocks
+      outside : (blocks : ℕ) → blocks_allowed blocks ≡ false → first_of (batch_order r batch blocks ++ rest) ≡ Err Blocks
       outside blocks e =
           refused-at ((width_allowed r.width, Width) ∷ (eqb r.stage stage_ready, Stage) ∷ (batch_follows r.last batch, Batch) ∷ []) rest
           (blocks_allowed blocks) Blocks (allowed, (eq-eqb _ _ ready, (batch-follows r.last batch next, tt))) e
@@ -175,7 +175,7 @@ past-32-bits r width blocks ready allowed e low high =
 
 -- P 0 or 16 at the end, on a record that holds them, whatever the key
 pub blocks-outside-end : (r : Record) (key : ℕ) (rest : Order) → width_allowed r.width ≡ true → r.stage ≡ stage_open → 0 < r.last
-    → (r.blocks ≡ 0) ⊎ (r.blocks ≡ 16) → first_of (end_order r key ++ rest) ≡ Blocks
+    → (r.blocks ≡ 0) ⊎ (r.blocks ≡ 16) → first_of (end_order r key ++ rest) ≡ Err Blocks
 blocks-outside-end r key rest allowed is_open some which =
     blocks-before-key r allowed (eq-eqb _ _ is_open) (lt-ltb 0 r.last some) key rest (outside which)
   where
@@ -184,19 +184,19 @@ blocks-outside-end r key rest allowed is_open some which =
     outside (inr e) = ap blocks_allowed e
 
 -- a file whose contents are right, and whose head has neither length: 8, whatever the head holds
-pub file-head-outside : (file : Range) → contents_right file ≡ true → length (body_of file 2) ≢ 10 → length (body_of file 2) ≢ 6 → read_answer file ≡ Body
+pub file-head-outside : (file : Range) → contents_right file ≡ true → length (body_of file 2) ≢ 10 → length (body_of file 2) ≢ 6 → read_answer file ≡ Err Body
 file-head-outside file right not-long not_IsShort =
     let n : ℕ = length (body_of file 2) in
     head-next file right (ap₂ ◌||◌ (ne_eqb n 10 not-long) (ne_eqb n 6 not_IsShort))
 
 -- of head values: width 3, 1; P 0 or 16, 4. Whatever is asked after them
 module _ (h : FileHead) (rest : Order) where
-  head-width-three : h.width ≡ 3 → first_of (head_order h.width h.batch h.blocks ++ rest) ≡ Width
+  head-width-three : h.width ≡ 3 → first_of (head_order h.width h.batch h.blocks ++ rest) ≡ Err Width
   unfolding width_allowed
   head-width-three three = refused-at [] _ (width_allowed h.width) Width tt (ap width_allowed three)
 
   head-blocks-outside : width_allowed h.width ≡ true → 0 < h.batch → (h.blocks ≡ 0) ⊎ (h.blocks ≡ 16)
-      → first_of (head_order h.width h.batch h.blocks ++ rest) ≡ Blocks
+      → first_of (head_order h.width h.batch h.blocks ++ rest) ≡ Err Blocks
   head-blocks-outside allowed some which =
       refused-at ((width_allowed h.width, Width) ∷ (ltb 0 h.batch, Batch) ∷ []) rest (blocks_allowed h.blocks) Blocks
       (allowed, (lt-ltb 0 h.batch some, tt)) (outside which)
@@ -214,20 +214,20 @@ module _ (file : Range) (right : contents_right file ≡ true) (which : (length 
       here (inl e) = ap head_right e
       here (inr e) = ap head_right e
 
-  pub file-width-three : (head_of file).width ≡ 3 → read_answer file ≡ Width
+  pub file-width-three : (head_of file).width ≡ 3 → read_answer file ≡ Err Width
   file-width-three three = values-next file right head-right ∙ head-width-three (head_of file) _ three
 
   pub file-blocks-outside : width_allowed (head_of file).width ≡ true → 0 < (head_of file).batch → ((head_of file).blocks ≡ 0) ⊎ ((head_of file).blocks ≡ 16)
-      → read_answer file ≡ Blocks
+      → read_answer file ≡ Err Blocks
   file-blocks-outside allowed some outside = values-next file right head-right ∙ head-blocks-outside (head_of file) _ allowed some outside
 
 -- and of one that is to be written
 module _ (h : FileHead) (b : Bodies) (file : ℕ) where
-  pub write-width-three : h.width ≡ 3 → write_answer h b file ≡ Width
+  pub write-width-three : h.width ≡ 3 → write_answer h b file ≡ Err Width
   unfolding write_answer
   write-width-three three = head-width-three h _ three
 
-  pub write-blocks-outside : width_allowed h.width ≡ true → 0 < h.batch → (h.blocks ≡ 0) ⊎ (h.blocks ≡ 16) → write_answer h b file ≡ Blocks
+  pub write-blocks-outside : width_allowed h.width ≡ true → 0 < h.batch → (h.blocks ≡ 0) ⊎ (h.blocks ≡ 16) → write_answer h b file ≡ Err Blocks
   unfolding write_answer
   write-blocks-outside allowed some outside = head-blocks-outside h _ allowed some outside
 
@@ -237,12 +237,12 @@ module _ (h : FileHead) (there : Bool) (b : Bodies) (values : AllHold (head_orde
   abbrev right : Bool
   right = bodies_right h.width h.blocks there (length b.setup) (length b.correction) (length b.key) (length b.check)
 
-  body-first : right ≡ false → first_of (values_for h there b ++ rest) ≡ Body
+  body-first : right ≡ false → first_of (values_for h there b ++ rest) ≡ Err Body
   body-first =
       body-before-key h.width h.batch h.blocks there (length b.setup) (length b.correction) (length b.key) (length b.check)
       (little_endian b.key) values rest
 
-  weak-told : right ≡ true → little_endian b.key < 2 → first_of (values_for h there b ++ rest) ≡ Key
+  weak-told : right ≡ true → little_endian b.key < 2 → first_of (values_for h there b ++ rest) ≡ Err Key
   weak-told =
       file-key-told h.width h.batch h.blocks there (length b.setup) (length b.correction) (length b.key) (length b.check)
       (little_endian b.key) values rest
@@ -255,19 +255,19 @@ module _ (file : Range) (contents : contents_right file ≡ true) (head : head_r
       bodies_right (head_of file).width (head_of file).blocks (present (count_of file) 1) (length (body_of file 1)) (length (body_of file 3))
       (length (body_of file 4)) (length (body_of file 5))
 
-  pub file-body-first : lengths ≡ false → read_answer file ≡ Body
+  pub file-body-first : lengths ≡ false → read_answer file ≡ Err Body
   file-body-first e = values-next file contents head ∙ body-first (head_of file) (present (count_of file) 1) (bodies_of file) values [] e
 
-  pub file-weak-key : lengths ≡ true → little_endian (body_of file 4) < 2 → read_answer file ≡ Key
+  pub file-weak-key : lengths ≡ true → little_endian (body_of file 4) < 2 → read_answer file ≡ Err Key
   file-weak-key e weak = values-next file contents head ∙ weak-told (head_of file) (present (count_of file) 1) (bodies_of file) values [] e weak
 
 -- and of one that is to be written, whatever length its range has
 module _ (h : FileHead) (b : Bodies) (file : ℕ) (values : AllHold (head_order h.width h.batch h.blocks)) where
-  pub write-body-first : lengths_right h b ≡ false → write_answer h b file ≡ Body
+  pub write-body-first : lengths_right h b ≡ false → write_answer h b file ≡ Err Body
   unfolding write_answer
   write-body-first e = body-first h (has_setup b) b values (has file (length_of h b) ∷ []) e
 
-  pub write-weak-key : lengths_right h b ≡ true → little_endian b.key < 2 → write_answer h b file ≡ Key
+  pub write-weak-key : lengths_right h b ≡ true → little_endian b.key < 2 → write_answer h b file ≡ Err Key
   unfolding write_answer
   write-weak-key e weak = weak-told h (has_setup b) b values (has file (length_of h b) ∷ []) e weak
 

@@ -6,8 +6,7 @@ use Rattle.words.specs.Bytes.{Range}
 use Rattle.sizes.specs.Sizes.{columns, trees_of}
 use Rattle.sizes.specs.Sizes.{column_length}
 use Rattle.tree.specs.Tree.{stream_byte}
-use Rattle.answer.specs.declared.Answer.{Answer}
-use Rattle.answer.specs.Answer.{first_of, when_done, when_failed}
+use Rattle.answer.specs.Answer.{Answer, first_of, when_done, when_failed}
 use Rattle.setup.specs.Setup.{message_of, siblings_of, ReceiverSetup, SenderSetup}
 use Rattle.columns.specs.Columns.{choices_of, receiver_table, correction_of, tree_correction, sender_table}
 use Rattle.consistency.specs.Message.{check_message, accepts}

@@ -8,8 +8,7 @@ use Rattle.tree.specs.Tree.{stream_byte, old_stream_byte}
 use Rattle.tree.proofs.Streams.{old-stream}
 use Rattle.columns.specs.Columns.{choices_of, receiver_table, correction_of, tree_correction, sender_table}
 use Rattle.pads.specs.Pads.{receiver_pads, sender_pads}
-use Rattle.answer.specs.declared.Answer.{Answer}
-use Rattle.answer.specs.Answer.{when_done}
+use Rattle.answer.specs.Answer.{Answer, when_done}
 use Rattle.rules.specs.declared.Record.{Record}
 use Rattle.session.specs.Steps.{ReceiverStart, SenderCorrect}
 use Rattle.theorems.specs.Demand2.{HonestBatch}

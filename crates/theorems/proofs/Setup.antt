@@ -5,9 +5,7 @@ use mathlib.Core.List.{List}
 use Prim.Native.Nat.{ℕ, ◌*◌, ◌≤◌}
 use native.Mathlib.Omega.{arith}
 use lib.ListN.{length}
-use Rattle.answer.specs.declared.Answer.{Answer}
-use Rattle.answer.specs.declared.Answer.TheVariants.{Done}
-use Rattle.answer.specs.Answer.{is_done, when_done}
+use Rattle.answer.specs.Answer.{Answer, Done, is_done, when_done}
 use Rattle.sizes.specs.Sizes.{width_allowed, trees_of, delta_length, roots_length, receiver_base_pads_length, setup_message_length, siblings_length}
 use Rattle.setup.specs.Setup.{message_of, siblings_of, sender_base_pads, beside_paths, ReceiverSetup, SenderSetup}
 use Rattle.setup.proofs.Answers.{receiver-fits, receiver-done, sender-done}

@@ -5,12 +5,12 @@ use Prim.Native.Nat.{ℕ, ◌+◌, ◌*◌, ◌^◌, ◌<◌, ◌≤◌}
 use native.Mathlib.Omega.{arith}
 use lib.ListN.{length}
 use borrow.Author.Tests.{eq-eqb, lt-ltb}
+use Rattle.std.specs.Prelude.{Err}
 use Rattle.words.specs.Bytes.{Range, part}
 use Rattle.words.specs.Bits.{bit_at}
 use Rattle.sizes.specs.Sizes.{width_allowed, columns, column_length}
-use Rattle.answer.specs.declared.Answer.{Answer}
-use Rattle.answer.specs.declared.Answer.TheVariants.{Done, Key}
-use Rattle.answer.specs.Answer.{is_done, when_done, when_failed}
+use Rattle.answer.specs.declared.Refusal.TheVariants.{Key}
+use Rattle.answer.specs.Answer.{Answer, Done, is_done, when_done, when_failed}
 use Rattle.answer.proofs.Order.{old-when}
 use Rattle.consistency.specs.Message.{accepts}
 use Rattle.rules.specs.declared.Record.{Record}
@@ -34,9 +34,9 @@ pub record OpenNow (r : Record) : Type 0 where
 -- the receiver's answer gives 9, whatever else it is given, and leaves all as it was: the batch stays open
 pub weak-answer : (r r' : Record) (key : ℕ) (choices table message pads message' pads' : Range) (answer : Answer) → OpenNow r → key < 2
     → ReceiverAnswer r key choices table message pads answer r' message' pads'
-    → (answer ≡ Key) × (r' ≡ r) × (message' ≡ message) × (pads' ≡ pads)
+    → (answer ≡ Err Key) × (r' ≡ r) × (message' ≡ message) × (pads' ≡ pads)
 weak-answer r r' key choices table message pads message' pads' answer now weak p =
-    let told : answer ≡ Key
+    let told : answer ≡ Err Key
     = p.answered ∙ answer-key-told r now.width (eq-eqb _ _ now.stage) (lt-ltb 0 r.last now.some) key weak now.blocks
     (length choices) (length table) (length message) (length pads) in (
       told,
@@ -48,9 +48,9 @@ weak-answer r r' key choices table message pads message' pads' answer now weak p
 -- and so does the sender's verify, whatever message it is given: it doesn't close
 pub weak-verify : (r r' : Record) (key : ℕ) (table delta message pads pads' : Range) (answer : Answer) → OpenNow r → key < 2
     → SenderVerify r key table delta message pads answer r' pads'
-    → (answer ≡ Key) × (r' ≡ r) × (pads' ≡ pads)
+    → (answer ≡ Err Key) × (r' ≡ r) × (pads' ≡ pads)
 weak-verify r r' key table delta message pads pads' answer now weak p =
-    let told : answer ≡ Key
+    let told : answer ≡ Err Key
     = p.answered ∙ verify-key-told r now.width (eq-eqb _ _ now.stage) (lt-ltb 0 r.last now.some) key weak now.blocks
     (length table) (length delta) (length message) (length pads) (accepts columns (column_length r.blocks) key table delta message) in (
       told,
@@ -62,11 +62,11 @@ weak-verify r r' key table delta message pads pads' answer now weak p =
 
 -- it is open, and nothing else has changed
 pub record StillOpen (h : HonestBatch) : Type 0 where
-  pub answered : h.a₅ ≡ Key
+  pub answered : h.a₅ ≡ Err Key
   pub receiver-kept : h.r₂ ≡ h.r₁
   pub message-kept : h.message' ≡ h.message
   pub pads-kept : h.pads' ≡ h.pads
-  pub verified : h.a₆ ≡ Key
+  pub verified : h.a₆ ≡ Err Key
   pub sender-kept : h.q₂ ≡ h.q₁
   pub both-pads-kept : h.both_pads' ≡ h.both_pads
 

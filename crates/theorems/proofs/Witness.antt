@@ -10,9 +10,7 @@ use Rattle.sizes.specs.Sizes.{width_allowed, trees_of, delta_length, roots_lengt
 use Rattle.sizes.specs.Sizes.{column_length, table_length, correction_length, check_message_length, receiver_pads_length, sender_pads_length}
 use Rattle.sizes.proofs.Widths.{width_fits}
 use Rattle.tree.specs.Tree.{stream_byte}
-use Rattle.answer.specs.declared.Answer.{Answer}
-use Rattle.answer.specs.declared.Answer.TheVariants.{Done}
-use Rattle.answer.specs.Answer.{when_done}
+use Rattle.answer.specs.Answer.{Answer, Done, when_done}
 use Rattle.setup.specs.Setup.{sender_base_pads, ReceiverSetup, SenderSetup}
 use Rattle.setup.proofs.Honest.{beside_paths-length}
 use Rattle.columns.specs.Columns.{tree_correction, sender_table}

@@ -2,9 +2,7 @@
 -- nothing, except that a failed check closes the session. Assumes nothing.
 use Rattle.std.specs.Prelude.{◌≡◌, ◌≢◌, List, [], ◌∷◌, ℕ}
 use Rattle.words.specs.Bytes.{Range}
-use Rattle.answer.specs.declared.Answer.{Answer}
-use Rattle.answer.specs.declared.Answer.TheVariants.{Done}
-use Rattle.answer.specs.Answer.{when_failed, Among}
+use Rattle.answer.specs.Answer.{Answer, Done, when_failed, Among}
 use Rattle.setup.specs.Setup.{ReceiverSetup, SenderSetup}
 use Rattle.rules.specs.declared.Record.{Record}
 use Rattle.rules.specs.Orders.{closed}

@@ -6,8 +6,7 @@ use Rattle.words.specs.Xor.{xor_list, scale}
 use Rattle.sizes.specs.Sizes.{width_allowed, columns, trees_of}
 use Rattle.sizes.specs.Sizes.{delta_length, roots_length, receiver_base_pads_length, setup_message_length, siblings_length}
 use Rattle.sizes.specs.Sizes.{column_length, table_length, correction_length, check_message_length, receiver_pads_length, sender_pads_length}
-use Rattle.answer.specs.declared.Answer.{Answer}
-use Rattle.answer.specs.declared.Answer.TheVariants.{Done}
+use Rattle.answer.specs.Answer.{Answer, Done}
 use Rattle.tree.specs.Tree.{stream_byte}
 use Rattle.setup.specs.Setup.{message_of, sender_base_pads, beside_paths, ReceiverSetup, SenderSetup}
 use Rattle.columns.specs.Columns.{choices_of, receiver_table, correction_of, tree_correction, sender_table}

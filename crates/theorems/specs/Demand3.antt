@@ -1,13 +1,13 @@
 -- Demand 3, over four steps: receiver setup, sender setup, sender correction, sender verify. Paper 01, 'Contracts and marked lines';
 -- paper 02, note 5. Assumes nothing.
-use Rattle.std.specs.Prelude.{◌≡◌, ◌⊎◌, ◌↔◌, ◌≢◌, ℕ, ◌+◌, ◌*◌, ◌/◌, ◌<◌, ◌≤◌}
+use Rattle.std.specs.Prelude.{◌≡◌, ◌⊎◌, ◌↔◌, ◌≢◌, ℕ, ◌+◌, ◌*◌, ◌/◌, ◌<◌, ◌≤◌, Err}
 use Rattle.words.specs.Bytes.{Range, Bytes}
 use Rattle.words.specs.Bits.{bit_at}
 use Rattle.consistency.specs.Message.{column_side, choice_side, sent_choice, sent_column}
 use Rattle.sizes.specs.Sizes.{columns, trees_of}
 use Rattle.tree.specs.Layout.{delta_of, column_of}
-use Rattle.answer.specs.declared.Answer.{Answer}
-use Rattle.answer.specs.declared.Answer.TheVariants.{Done, Check}
+use Rattle.answer.specs.declared.Refusal.TheVariants.{Check}
+use Rattle.answer.specs.Answer.{Answer, Done}
 use Rattle.setup.specs.Setup.{sender_base_pads, ReceiverSetup, SenderSetup}
 use Rattle.pads.specs.Pads.{sender_pads}
 use Rattle.rules.specs.declared.Record.{Record}
@@ -47,7 +47,7 @@ pub record Run (s : Sent) (delta : Range) : Type 0 where
 
 -- the verify refused nothing before its check: it gave none of 1, 2, 3, 4, 9 and 5
 abbrev pub Unrefused : Answer → Type 0
-Unrefused answer = (answer ≡ Done) ⊎ (answer ≡ Check)
+Unrefused answer = (answer ≡ Done) ⊎ (answer ≡ Err Check)
 
 -- the two sides of the check are equal in column c
 abbrev pub SidesEqual : (s : Sent) (delta table : Range) (c : ℕ) → Type 0
@@ -75,7 +75,7 @@ pub record Accepts (s : Sent) (delta : Range) (run : Run s delta) : Type 0 where
 -- or it answers that the check failed, and closes, and nothing else has changed
 pub record Closes (s : Sent) (delta : Range) (run : Run s delta) : Type 0 where
   pub differ : EveryColumn (ErrorsMeet s delta) → ⊥
-  pub answered : run.answer ≡ Check
+  pub answered : run.answer ≡ Err Check
   pub recorded : run.q' ≡ closed run.q
   pub padded : run.pads' ≡ run.pads
 

@@ -5,8 +5,7 @@ use Rattle.sizes.specs.Sizes.{columns, trees_of, column_length}
 use Rattle.tree.specs.Tree.{old_stream_byte}
 use Rattle.columns.specs.Columns.{choices_of, receiver_table, correction_of, tree_correction, sender_table}
 use Rattle.pads.specs.Pads.{receiver_pads, sender_pads}
-use Rattle.answer.specs.declared.Answer.{Answer}
-use Rattle.answer.specs.Answer.{when_done}
+use Rattle.answer.specs.Answer.{Answer, when_done}
 use Rattle.rules.specs.declared.Record.{Record}
 use Rattle.theorems.specs.Demand2.{HonestBatch}
 

@@ -1,7 +1,6 @@
 -- The sides of delta. Assumes nothing.
-use Rattle.std.proofs.Common.{◌≡◌, ℕ, ◌+◌, ◌-◌, ◌*◌, ◌/◌, ◌%◌, ◌<◌, ◌≤◌, List, ◌++◌, length, get_or, take, sym, ap, ◌∙◌, add-zero, mul-le-mul_right, mod-lt, add-mul, div-add-mod', arith, take_at}
+use Rattle.std.proofs.Common.{◌≡◌, ℕ, ◌+◌, ◌-◌, ◌*◌, ◌/◌, ◌%◌, ◌<◌, List, ◌++◌, length, get_or, take, sym, ap, ◌∙◌, add-zero, mod-lt, add-mul, div-add-mod', arith, take_at}
 use native.Mathlib.Nat.{zero-mod}
-use native.Mathlib.Decide.{dec_lt}
 use lib.Arith.{digits_mod}
 use Rattle.words.specs.Bits.{bit_at}
 use Rattle.words.proofs.Xor.{bit-lt}
@@ -49,26 +48,6 @@ pub whole-trees : (n k : ℕ) → 0 < k → n * k % k ≡ 0
 whole-trees n k pos = ap (λ (i : ℕ). i % k) (sym (add-zero (n * k))) ∙ digits_mod n pos
 
 -- ---- the levels of the base transfers in turn
-
--- the bit's place is below m
-abbrev pub LevelFits : ℕ → ℕ → ℕ → ℕ → Type 0
-LevelFits m k c l = (l < k) × (l ≤ c) × (c - l + (k - 1 - l) < m)
-
--- of m base transfers, all those of some trees of k levels
-pub level-fits : (m k : ℕ) → 0 < k → m % k ≡ 0 → (c : ℕ) → c < m → LevelFits m k c (c % k)
-level-fits m k pos whole c h =
-    let below : c / k < m / k = here (dec_lt (c / k) (m / k)) in
-    let next : (c / k + 1) * k ≤ m / k * k = mul-le-mul_right k (omega arith) in (
-      mod-lt c pos,
-      omega (arith, div-add-mod' c k),
-      omega (arith, div-add-mod' c k, div-add-mod' m k, whole, next, add-mul (c / k) 1 k, mod-lt c pos),
-    )
-  where
-    here : Dec (c / k < m / k) → c / k < m / k
-    here (yes lt) = lt
-    here (no ge) =
-        let le : m / k * k ≤ c / k * k = mul-le-mul_right k (omega arith) in
-        absurd (omega (arith, div-add-mod' c k, div-add-mod' m k, whole, le))
 
 pub level-first : (k : ℕ) → 0 ≡ 0 % k
 level-first k = sym (zero-mod k)

@@ -3,16 +3,40 @@
 
 pub mod side;
 
-ghost use Rattle.std.specs.Prelude.{◌≡◌, ◌+◌, ◌*◌, ◌%◌, ◌<◌, ◌≤◌, length, slice_index};
+ghost use Rattle.std.specs.Prelude.{◌≡◌, true, ◌+◌, ◌*◌, ◌%◌, ◌<◌, ◌≤◌, length, slice_index};
 ghost use Rattle.words.specs.Bytes.{part};
 ghost use Rattle.words.specs.Xor.{xor_each, xor_part};
 ghost use Rattle.tree.specs.WalkWords.{total_word, u_word, column_word};
 ghost use Rattle.tree.specs.Streams.{block_word, word_of};
+ghost use Rattle.tree.specs.Sides.{TreesFit};
+ghost use Rattle.sizes.specs.Sizes.{width_allowed, trees_of};
 
 // What a leaf's stream is drawn by: the number of the batch.
 #[derive(Clone, Copy)]
 pub struct Stream {
     pub batch: u64,
+}
+
+// Paper 01's trees: n of k levels.
+#[derive(Clone, Copy)]
+pub struct Trees {
+    pub n: usize,
+    pub k: usize,
+    pub ghost fit: { TreesFit n k },
+}
+
+impl Trees {
+    // Those of an allowed width.
+    pub fn of(width: u32) -> Trees
+        requires { width_allowed width ≡ true }
+        ensures n { result.n ≡ trees_of width }
+        ensures k { result.k ≡ width }
+    {
+        Trees {
+            n: sizes::trees_of(width),
+            k: width as usize,
+        }
+    }
 }
 
 // The four nodes at a place of s: in four blocks the left children stand at 0, the right ones at 32.
@@ -21,10 +45,8 @@ pub fn nodes_at(s: &[u32], at: usize) -> [u32; 32]
     ensures { result ≡ part at 32 s.now }
 {
     let mut r = [0u32; 32];
-    let mut i = 0;
-    while i < 32 {
+    for i in 0..32 {
         r[i] = s[at + i];
-        i += 1;
     }
     r
 }
@@ -47,14 +69,11 @@ fn add_blocks(nonce: &[u8; 12], keys: &[u32; 32], u: &mut [u32])
     requires { (length u.old % 64 ≡ 0) × (length u.old ≤ 512) }
     ensures { u.new ≡ xor_each u.old (u_word (block_word nonce.now) 0 keys.now) }
 {
-    let mut counter = 0u32;
-    let mut at = 0;
-    while at < u.len() {
-        let c = chacha20_four::block(keys, counter, nonce);
+    for counter in 0..u.len() / 64 {
+        let c = chacha20_four::block(keys, counter as u32, nonce);
+        let at = 64 * counter;
         let end = at + 64;
         words::xor_words(&mut u[at..end], &c);
-        counter += 1;
-        at = end;
     }
 }
 

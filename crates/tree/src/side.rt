@@ -1,4 +1,5 @@
 // Delta as a side for each base transfer, and a side as a mask: never a branch or an address.
+// A side stays a plain u8: with a type of its own, each clause and lemma on a list of sides would first have to map it to numbers.
 ghost use Rattle.std.specs.Prelude.{◌≡◌, ◌+◌, ◌-◌, ◌*◌, ◌%◌, ◌^◌, ◌<◌, ◌≤◌, length, slice_index};
 ghost use Rattle.words.specs.Bytes.{tabulate};
 ghost use Rattle.tree.specs.Sides.{sides_of};
@@ -9,13 +10,11 @@ pub fn all(k: usize, delta: &[u8], out: &mut [u8])
     requires { (0 < k) × (length out.old % k ≡ 0) × (length out.old ≤ 8 * length delta.now) }
     ensures { out.new ≡ sides_of (length out.old) k delta.now }
 {
-    let mut c = 0;
     let mut level = 0;
-    while c < out.len() {
+    for c in 0..out.len() {
         let tree = c - level;
         let highest = k - 1 - level;
         out[c] = 1 - words::bit(delta, tree + highest);
-        c += 1;
         level += 1;
         if level == k {
             level = 0;
@@ -41,5 +40,5 @@ pub fn mask(side: u8) -> u32
     requires { side < 2 }
     ensures { result ≡ side * (2 ^ 32 - 1) }
 {
-    std::num::wrapping_sub_u32(0, side as u32)
+    0u32.wrapping_sub(side as u32)
 }

@@ -24,7 +24,7 @@ returns-clause-correction_after c =
     ∙ ap (λ (m : ℕ). put xs (s.i * len) (concat 4 (λ l. lane_bytes l (len / 4) (take m u)))) back
     ∙ ap (put xs (s.i * len))
     (concat-same 4 (λ l. lane_bytes l (len / 4) (take len u)) (λ i. u_of s.k stream len (root_of s.roots.now i))
-    (λ l h. c.walk_roots.ensures.by_index len l fits.whole fits.room h))
+    (λ l h. c.walk_roots.ensures.sums len l fits.whole fits.room h))
 
 pub returns-clause-table_after : goal.returns-clause-table_after
 returns-clause-table_after c =
@@ -40,4 +40,4 @@ returns-clause-table_after c =
     ∙ concat-same 4 (λ l. concat k (λ b. lane_bytes l (len / 4) (part (b * n) len v))) (λ i. concat k (receiver_column k stream len (root_of s.roots.now i)))
     (λ l h.
     concat-same k (λ b. lane_bytes l (len / 4) (part (b * n) len v)) (receiver_column k stream len (root_of s.roots.now l))
-    (λ b hb. c.walk_roots.ensures.by_index_2 len l b fits.whole fits.room h hb))
+    (λ b hb. c.walk_roots.ensures.columns len l b fits.whole fits.room h hb))
