@@ -392,7 +392,7 @@ fn main(rt: HostRuntime) -> io::Result<()> {
     let n = cases::read_full(&mut rt.stdin(), &mut buffer)?;
     let mut to = rt.stdout();
     // two sessions whose records hold nothing
-    let nothing = rules::new_record(0);
+    let nothing = rules::Record::new(0);
     let mut both = Sessions {
         receiver: nothing,
         sender: nothing,

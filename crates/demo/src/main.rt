@@ -7,8 +7,9 @@
 ghost use Rattle.std.specs.Prelude.{◌≡◌, ◌*◌, ◌≤◌, length, IfOk};
 ghost use Rattle.sizes.specs.Sizes.{delta_length, receiver_base_pads_length, sender_base_pads_length, siblings_length, receiver_pads_length, sender_pads_length};
 
-use answer::Answer;
+use answer::Refusal;
 use cases::Sessions;
+use rules::Record;
 use std::io;
 use std::io::Write;
 
@@ -36,8 +37,8 @@ fn say_digest(to: &mut impl Write, text: &str, s: &[u8]) -> io::Result<()> {
 }
 
 // The transfers of a batch, which count where the step that ends it was done.
-fn transfers(end: Answer, blocks: u32) -> u64 {
-    if let Answer::Done = end {
+fn transfers(end: Result<(), Refusal>, blocks: u32) -> u64 {
+    if end.is_ok() {
         64 * (blocks as u64)
     } else {
         0
@@ -307,7 +308,7 @@ fn planned(number: u32, blocks: u32, flip: u8) -> Batch
 
 // Two sessions of width 8, opened on records that hold nothing.
 fn new_sessions() -> Sessions {
-    let r = rules::new_record(0);
+    let r = Record::new(0);
     let first = session::open(r, 8);
     let second = session::open(r, 8);
     let receiver = first.record;

@@ -5,6 +5,7 @@
 
 ghost use Rattle.std.specs.Prelude.{◌+◌, ◌≤◌, length};
 
+use answer::Refusal;
 use cases::input::Records;
 use std::io;
 use std::io::Write;
@@ -108,9 +109,9 @@ fn end_of(p: &[u8], at: usize, start: usize) -> usize
 }
 
 // An answer's number and the digest of a range.
-fn print_answer(to: &mut impl Write, res: answer::Answer, s: &[u8]) -> io::Result<()> {
+fn print_answer(to: &mut impl Write, answer: Result<(), Refusal>, s: &[u8]) -> io::Result<()> {
     let mut line = [0u8; 33];
-    line[0] = (answer::number_of(res) % 256) as u8;
+    line[0] = (answer::number_of(answer) % 256) as u8;
     words::copy_part(&mut line, 1, &sha256::one::digest(s));
     cases::print(to, &line)
 }
@@ -164,10 +165,7 @@ fn sender_setup(to: &mut impl Write, p: &[u8]) -> io::Result<()> {
 
 // An input of foldprint: its line.
 fn line(to: &mut impl Write, p: &[u8]) -> io::Result<()> {
-    let l = foldtext::line(p);
-    let len = l.len;
-    let bytes = l.bytes;
-    to.write_all(&bytes[..len])
+    to.write_all(foldtext::line(p).as_bytes())
 }
 
 fn case(to: &mut impl Write, kind: u8, p: &[u8]) -> io::Result<()> {
