@@ -7,15 +7,10 @@
 ghost use Rattle.std.specs.Prelude.{◌≡◌, ◌+◌, ◌≤◌, length};
 ghost use Rattle.sizes.specs.Sizes.{siblings_length};
 
+use cases::Sessions;
+use cases::input::Records;
 use std::io;
 use std::io::Write;
-
-// Two sessions, one on each side.
-#[derive(Clone, Copy)]
-struct Sessions {
-    receiver: rules::Record,
-    sender: rules::Record,
-}
 
 // The length that stands at a place; no more than a derived range has, which the `ensures` says.
 fn length_at(p: &[u8], at: usize) -> usize
@@ -199,11 +194,8 @@ fn alter(a: &[u8], range: u8, s: &mut [u8])
 
 // Makes all alterations of a range.
 fn damage(alterations: &[u8], range: u8, s: &mut [u8]) {
-    let mut at = 0;
-    while 8 <= alterations.len() - at {
-        let end = at + 8;
-        alter(&alterations[at..end], range, s);
-        at = end;
+    for alteration in alterations.chunks_exact(8) {
+        alter(alteration, range, s);
     }
 }
 
@@ -380,61 +372,33 @@ fn open(to: &mut impl Write, both: Sessions, p: &[u8]) -> io::Result<Sessions> {
     Ok(Sessions { receiver, sender })
 }
 
-// A single step, on a record of its own.
-fn single(to: &mut impl Write, kind: u8, p: &[u8]) -> io::Result<()> {
-    match kind {
-        4 => receiver_start(to, p),
-        5 => sender_correct(to, p),
-        6 => receiver_answer(to, p),
-        7 => sender_verify(to, p),
-        _ => Ok(()),
-    }
-}
-
+// What a record asks for: the sessions' records, both opened, a whole batch; or a single step, on a record of its own.
 fn case(to: &mut impl Write, both: Sessions, kind: u8, p: &[u8]) -> io::Result<Sessions> {
-    if kind == 1 {
-        return Ok(set(both, p));
+    match kind {
+        1 => return Ok(set(both, p)),
+        2 => return open(to, both, p),
+        3 => return batch(to, both, p),
+        4 => receiver_start(to, p)?,
+        5 => sender_correct(to, p)?,
+        6 => receiver_answer(to, p)?,
+        7 => sender_verify(to, p)?,
+        _ => {}
     }
-    if kind == 2 {
-        return open(to, both, p);
-    }
-    if kind == 3 {
-        return batch(to, both, p);
-    }
-    single(to, kind, p)?;
     Ok(both)
-}
-
-// Two sessions whose records hold nothing.
-fn nothing() -> Sessions {
-    let r = rules::new_record(0);
-    Sessions {
-        receiver: r,
-        sender: r,
-    }
-}
-
-// Records one after the other: a kind, the length of what follows in 4 bytes, and that.
-fn run(to: &mut impl Write, s: &[u8]) -> io::Result<()> {
-    let mut both = nothing();
-    let mut at = 0;
-    while 5 <= s.len() - at {
-        let body = at + 5;
-        let n = words::load32(s, at + 1) as usize;
-        if s.len() - body < n {
-            return Ok(());
-        }
-        let end = body + n;
-        let after = case(to, both, s[at], &s[body..end])?;
-        both = after;
-        at = end;
-    }
-    Ok(())
 }
 
 fn main(rt: HostRuntime) -> io::Result<()> {
     let mut buffer = cases::million(0);
     let n = cases::read_full(&mut rt.stdin(), &mut buffer)?;
     let mut to = rt.stdout();
-    run(&mut to, &buffer[..n])
+    // two sessions whose records hold nothing
+    let nothing = rules::Record::new(0);
+    let mut both = Sessions {
+        receiver: nothing,
+        sender: nothing,
+    };
+    for record in (Records { rest: &buffer[..n] }) {
+        both = case(&mut to, both, record.kind, record.payload)?;
+    }
+    Ok(())
 }

@@ -9,8 +9,6 @@ fn main(rt: HostRuntime) -> io::Result<()> {
     // One byte more than the longest file, so that a longer one is seen to be too long.
     let mut buffer = [0u8; batchfile::LONGEST_FILE + 1];
     let n = cases::read_full(&mut rt.stdin(), &mut buffer)?;
-    let text = filetext::text_of(&buffer[..n]);
-    let len = text.len;
-    let bytes = text.bytes;
-    rt.stdout().write_all(&bytes[..len])
+    rt.stdout()
+        .write_all(filetext::text_of(&buffer[..n]).as_bytes())
 }

@@ -2,13 +2,24 @@
 // writes no contract can say; where a function has a contract, it is what its callers need to be safe.
 #![tactic(auto)]
 
+pub mod input;
+
 ghost use Rattle.std.specs.Prelude.{◌≡◌, ◌≤◌, length, get_or, set, IfOk};
 ghost use Rattle.words.specs.Xor.{◌⊕◌};
 
+use rules::Record;
 use std::io;
 use std::io::{Read, Write};
 
-// Reads until the range is full or the input ends, and gives how many bytes it read. The `ensures` says that the range has so many.
+// Two sessions, one on each side.
+#[derive(Clone, Copy)]
+pub struct Sessions {
+    pub receiver: Record,
+    pub sender: Record,
+}
+
+// Reads until the range is full or the input ends, and gives how many bytes it read. The `ensures` says that the range has so many. (The
+// loop stays a `while`: it ends when the input does, and the library's methods that read to an end want a heap.)
 pub fn read_full(input: &mut impl Read, range: &mut [u8]) -> io::Result<usize>
     ensures { IfOk result (λ n. n ≤ length range.new) }
 {
@@ -53,12 +64,10 @@ pub fn derived(seed: u32, range: u32) -> [u8; 61472]
     let mut m = [0u8; 12];
     words::store32(&mut m, 0, seed);
     words::store32(&mut m, 4, range);
-    let mut j: u32 = 0;
-    while j < 1921 {
+    for j in 0..1921u32 {
         words::store32(&mut m, 8, j);
         let at = 32 * (j as usize);
         words::copy_part(&mut out, at, &sha256::one::digest(&m));
-        j += 1;
     }
     out
 }

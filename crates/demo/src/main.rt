@@ -7,16 +7,11 @@
 ghost use Rattle.std.specs.Prelude.{◌≡◌, ◌*◌, ◌≤◌, length, IfOk};
 ghost use Rattle.sizes.specs.Sizes.{delta_length, receiver_base_pads_length, sender_base_pads_length, siblings_length, receiver_pads_length, sender_pads_length};
 
-use answer::Answer;
+use answer::Refusal;
+use cases::Sessions;
+use rules::Record;
 use std::io;
 use std::io::Write;
-
-// Two sessions, one on each side.
-#[derive(Clone, Copy)]
-struct Sessions {
-    receiver: rules::Record,
-    sender: rules::Record,
-}
 
 // A batch to be played: its number, blocks and key, and what is added to a byte of tree 1's correction on its way to the sender.
 #[derive(Clone, Copy)]
@@ -34,27 +29,16 @@ struct Opened {
     correct: session::Stepped,
 }
 
-// Prints a text.
-fn say(to: &mut impl Write, text: &[u8]) -> io::Result<()> {
-    to.write_all(text)
-}
-
-// Prints a text and a number.
-fn say_number(to: &mut impl Write, text: &[u8], n: u64) -> io::Result<()> {
-    say(to, text)?;
-    write!(to, "{n}")
-}
-
 // Prints a text and the first 8 bytes of the digest of a range.
-fn say_digest(to: &mut impl Write, text: &[u8], s: &[u8]) -> io::Result<()> {
-    say(to, text)?;
+fn say_digest(to: &mut impl Write, text: &str, s: &[u8]) -> io::Result<()> {
+    write!(to, "{text}")?;
     let digest = sha256::one::digest(s);
     cases::print_digits(to, &digest[0..8])
 }
 
 // The transfers of a batch, which count where the step that ends it was done.
-fn transfers(end: Answer, blocks: u32) -> u64 {
-    if let Answer::Done = end {
+fn transfers(end: Result<(), Refusal>, blocks: u32) -> u64 {
+    if end.is_ok() {
         64 * (blocks as u64)
     } else {
         0
@@ -64,49 +48,29 @@ fn transfers(end: Answer, blocks: u32) -> u64 {
 // One side's account of a batch, from the step that opened it and the one that ended it.
 fn say_side(
     to: &mut impl Write,
-    name: &[u8],
+    name: &str,
     start: session::Stepped,
     end: session::Stepped,
 ) -> io::Result<()> {
-    let open = start.record;
+    let blocks = start.record.blocks;
+    let count = transfers(end.answer, blocks);
+    let first = answer::number_of(start.answer);
+    let second = answer::number_of(end.answer);
     let after = end.record;
-    let first = start.answer;
-    let second = end.answer;
-    say(to, name)?;
-    say_number(to, b": last ", after.last)?;
-    say_number(to, b", blocks ", open.blocks as u64)?;
-    say_number(to, b", transfers ", transfers(second, open.blocks))?;
-    say_number(to, b", answers ", answer::number_of(first) as u64)?;
-    say_number(to, b" ", answer::number_of(second) as u64)?;
-    say_number(to, b", stage ", after.stage as u64)
+    write!(
+        to,
+        "{name}: last {}, blocks {blocks}, transfers {count}, answers {first} {second}, stage {}",
+        after.last, after.stage
+    )
 }
 
 // Of a pair of pads the second where the mask is all ones, the first where it is 0.
 fn choose(pair: &[u8], mask: u8, out: &mut [u8])
     requires { (64 ≡ length pair.now) × (32 ≡ length out.old) }
 {
-    let mut i = 0;
-    while i < 32 {
+    for i in 0..32usize {
         out[i] = (pair[i] & (255 ^ mask)) ^ (pair[32 + i] & mask);
-        i += 1;
     }
-}
-
-// 1 where two pads are the same in every byte, 0 elsewhere.
-fn same(a: &[u8], b: &[u8]) -> u64
-    requires { (32 ≡ length a.now) × (32 ≡ length b.now) }
-    ensures { result ≤ 1 }
-{
-    let mut difference: u8 = 0;
-    let mut i = 0;
-    while i < 32 {
-        difference = difference | (a[i] ^ b[i]);
-        i += 1;
-    }
-    if difference == 0 {
-        return 1;
-    }
-    0
 }
 
 // Of eight transfers with the choices of one byte, how many of the receiver's pads are the sender's pad of that choice.
@@ -117,12 +81,12 @@ fn agree_in_eight(choices: u8, mine: &[u8], theirs: &[u8]) -> u64
     let mut count: u64 = 0;
     let mut left = choices;
     let mut pad = [0u8; 32];
-    let mut j = 0;
-    while j < 8 {
+    for j in 0..8usize {
         choose(&theirs[64 * j..64 * j + 64], 255 * (left % 2), &mut pad);
-        count += same(&mine[32 * j..32 * j + 32], &pad);
+        if mine[32 * j..32 * j + 32] == pad[..] {
+            count += 1;
+        }
         left = left / 2;
-        j += 1;
     }
     count
 }
@@ -132,24 +96,16 @@ fn agree(bytes: usize, choices: &[u8], mine: &[u8], theirs: &[u8]) -> u64
     requires { (bytes ≤ 120) × (bytes ≤ length choices.now) × (256 * bytes ≡ length mine.now) × (512 * bytes ≡ length theirs.now) }
 {
     let mut count: u64 = 0;
-    let mut j = 0;
-    while j < bytes {
+    for j in 0..bytes {
         let mine_eight = &mine[256 * j..256 * j + 256];
         count += agree_in_eight(choices[j], mine_eight, &theirs[512 * j..512 * j + 512]);
-        j += 1;
     }
     count
 }
 
 // Whether a range of zeros was written to.
 fn written(s: &[u8]) -> bool {
-    let mut any: u8 = 0;
-    let mut i = 0;
-    while i < s.len() {
-        any = any | s[i];
-        i += 1;
-    }
-    any != 0
+    s.iter().any(|byte| *byte != 0)
 }
 
 // What a comparison of both sides' pads finds.
@@ -162,20 +118,17 @@ fn say_pads(
 ) -> io::Result<()>
     requires { (bytes ≤ 120) × (bytes ≤ length choices.now) × (256 * bytes ≡ length mine.now) × (512 * bytes ≡ length theirs.now) }
 {
-    say_number(
-        to,
-        b"\n  pads that agree: ",
-        agree(bytes, choices, mine, theirs),
-    )?;
-    say_number(to, b" of ", 8 * (bytes as u64))?;
+    let count = agree(bytes, choices, mine, theirs);
+    let all = 8 * bytes;
+    write!(to, "\n  pads that agree: {count} of {all}")?;
     if written(theirs) {
-        say(to, b"; the sender's were written")?;
+        write!(to, "; the sender's were written")?;
     } else {
-        say(to, b"; none of the sender's was written")?;
+        write!(to, "; none of the sender's was written")?;
     }
-    say_digest(to, b"; digests ", mine)?;
-    say_digest(to, b" ", theirs)?;
-    say(to, b"\n")
+    say_digest(to, "; digests ", mine)?;
+    say_digest(to, " ", theirs)?;
+    writeln!(to)
 }
 
 // The pads that the sender has of one tree's base transfers: at each level the one numbered 1 minus the path bit. The path's
@@ -184,9 +137,7 @@ fn tree_base_pads(path: u8, pairs: &[u8], out: &mut [u8])
     requires { (512 ≡ length pairs.now) × (256 ≡ length out.old) }
 {
     let mut left = path;
-    let mut l = 8;
-    while 0 < l {
-        l -= 1;
+    for l in (0..8usize).rev() {
         let pair = &pairs[64 * l..64 * l + 64];
         choose(pair, 255 * (1 - left % 2), &mut out[32 * l..32 * l + 32]);
         left = left / 2;
@@ -197,11 +148,9 @@ fn tree_base_pads(path: u8, pairs: &[u8], out: &mut [u8])
 fn sender_base_pads(delta: &[u8], pairs: &[u8], out: &mut [u8])
     requires { (delta_length ≡ length delta.now) × (receiver_base_pads_length ≡ length pairs.now) × (sender_base_pads_length ≡ length out.old) }
 {
-    let mut i = 0;
-    while i < 16 {
+    for i in 0..16usize {
         let tree_pairs = &pairs[512 * i..512 * i + 512];
         tree_base_pads(delta[i], tree_pairs, &mut out[256 * i..256 * i + 256]);
-        i += 1;
     }
 }
 
@@ -222,13 +171,9 @@ fn siblings_of(
     sender_base_pads(delta, pairs, &mut pads);
     let mut siblings = [0u8; sizes::SIBLINGS_LENGTH];
     let second = setup::sender_setup(8, delta, &pads, &message, &mut siblings);
-    say_number(
-        to,
-        b"setup, width 8: answers ",
-        answer::number_of(first) as u64,
-    )?;
-    say_number(to, b" ", answer::number_of(second) as u64)?;
-    say(to, b"\n")?;
+    let first = answer::number_of(first);
+    let second = answer::number_of(second);
+    writeln!(to, "setup, width 8: answers {first} {second}")?;
     Ok(siblings)
 }
 
@@ -277,8 +222,8 @@ fn end_batch(
     let mut message = [0u8; sizes::CHECK_MESSAGE_LENGTH];
     let answer = session::receiver_answer(start.record, key, choices, v, &mut message, mine);
     let verify = session::sender_verify(correct.record, key, w, delta, &message, theirs);
-    say_side(to, b"  receiver", start, answer)?;
-    say_side(to, b"   sender", correct, verify)?;
+    say_side(to, "  receiver", start, answer)?;
+    say_side(to, "   sender", correct, verify)?;
     let receiver = answer.record;
     let sender = verify.record;
     Ok(Sessions { receiver, sender })
@@ -338,8 +283,7 @@ fn play(
 ) -> io::Result<Sessions>
     requires { b.blocks ≤ 15 }
 {
-    say_number(to, b"batch ", b.number)?;
-    say(to, b"\n")?;
+    writeln!(to, "batch {}", b.number)?;
     let mut all_choices = [0u8; 128];
     let mut all_mine = [0u8; 30720];
     let mut all_theirs = [0u8; 61440];
@@ -364,7 +308,7 @@ fn planned(number: u32, blocks: u32, flip: u8) -> Batch
 
 // Two sessions of width 8, opened on records that hold nothing.
 fn new_sessions() -> Sessions {
-    let r = rules::new_record(0);
+    let r = Record::new(0);
     let first = session::open(r, 8);
     let second = session::open(r, 8);
     let receiver = first.record;
@@ -377,21 +321,21 @@ fn play_all(to: &mut impl Write, roots: &[u8], delta: &[u8], siblings: &[u8]) ->
     let first = play(to, new_sessions(), planned(1, 1, 0), roots, delta, siblings)?;
     let second = play(to, first, planned(2, 15, 0), roots, delta, siblings)?;
     let third = play(to, second, planned(3, 4, 0), roots, delta, siblings)?;
-    say(
+    writeln!(
         to,
-        b"the receiver cheats: one bit of its correction is flipped\n",
+        "the receiver cheats: one bit of its correction is flipped"
     )?;
     let fourth = play(to, third, planned(4, 2, 1), roots, delta, siblings)?;
-    say(to, b"a further batch\n")?;
+    writeln!(to, "a further batch")?;
     play(to, fourth, planned(5, 1, 0), roots, delta, siblings)?;
     Ok(())
 }
 
 fn main(rt: HostRuntime) -> io::Result<()> {
     let mut to = rt.stdout();
-    say(
+    writeln!(
         &mut to,
-        b"answers: 0 done, 2 wrong stage, 6 check failed; stage: 0 ready, 2 closed\n",
+        "answers: 0 done, 2 wrong stage, 6 check failed; stage: 0 ready, 2 closed"
     )?;
     let all_roots = cases::derived(1, 0);
     let all_delta = cases::derived(1, 1);

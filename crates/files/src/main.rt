@@ -5,7 +5,11 @@
 #![tactic(auto)]
 
 ghost use Rattle.std.specs.Prelude.{◌≤◌, length};
+ghost use Rattle.std.specs.Iterator.{at_most};
 
+use batchfile::{FileHead, Places};
+use cases::input::Records;
+use filewriter::Bodies;
 use std::io;
 use std::io::Write;
 
@@ -20,18 +24,45 @@ fn lay(file: &mut [u8], place: usize, part: &[u8]) {
     words::copy_part(file, place, part);
 }
 
-// Lays all parts that are sent: of each its place, its length, 4 bytes each, and its bytes.
-fn lay_all(file: &mut [u8], parts: &[u8]) {
-    let mut at = 0;
-    while 8 <= parts.len() - at {
-        let body = at + 8;
-        let n = words::load32(parts, at + 4) as usize;
-        if parts.len() - body < n {
-            return;
+// A part of a file that is sent: where it is laid, and its bytes.
+#[derive(Clone, Copy)]
+struct Part<'a> {
+    place: usize,
+    bytes: &'a [u8],
+}
+
+// Parts that stand one after the other: of each its place, its length, 4 bytes each, and its bytes; up to the first that is cut.
+#[derive(Clone, Copy)]
+struct Parts<'a> {
+    rest: &'a [u8],
+}
+
+impl<'a> Iterator for Parts<'a> {
+    type Item = Part<'a>;
+
+    ghost remaining = { λ s. at_most (length s.rest.now) };
+
+    fn next(&mut self) -> Option<Part<'a>> {
+        let rest = self.rest;
+        if rest.len() < 8 {
+            return None;
         }
-        let end = body + n;
-        lay(file, words::load32(parts, at) as usize, &parts[body..end]);
-        at = end;
+        let end = 8 + words::load32(rest, 4) as usize;
+        if rest.len() < end {
+            return None;
+        }
+        self.rest = &rest[end..];
+        Some(Part {
+            place: words::load32(rest, 0) as usize,
+            bytes: &rest[8..end],
+        })
+    }
+}
+
+// Lays all parts that are sent.
+fn lay_all(file: &mut [u8], parts: &[u8]) {
+    for part in (Parts { rest: parts }) {
+        lay(file, part.place, part.bytes);
     }
 }
 
@@ -47,12 +78,13 @@ fn print_body(to: &mut impl Write, file: &[u8], kind: u32) -> io::Result<()> {
 // What reading finds: the answer's number, width and blocks in 4 bytes each, and the batch number, the five places and the file's length
 // in 8 each.
 fn print_found(to: &mut impl Write, file: &[u8]) -> io::Result<()> {
-    let found = batchfile::find(file);
-    let result = found.answer;
-    let head = found.head;
-    let places = found.places;
+    let end = file.len();
+    let (answer, head, places) = match batchfile::find(file) {
+        Ok(found) => (Ok(()), found.head, found.places),
+        Err(refusal) => (Err(refusal), FileHead::default(), Places::nowhere(end)),
+    };
     let mut line = [0u8; 65];
-    line[0] = (answer::number_of(result) % 256) as u8;
+    line[0] = (answer::number_of(answer) % 256) as u8;
     words::store32(&mut line, 1, head.width);
     words::store32(&mut line, 5, head.blocks);
     words::store64(&mut line, 9, head.batch);
@@ -61,7 +93,7 @@ fn print_found(to: &mut impl Write, file: &[u8]) -> io::Result<()> {
     words::store64(&mut line, 33, places.correction as u64);
     words::store64(&mut line, 41, places.key as u64);
     words::store64(&mut line, 49, places.check as u64);
-    words::store64(&mut line, 57, file.len() as u64);
+    words::store64(&mut line, 57, end as u64);
     cases::print_digits(to, &line)
 }
 
@@ -79,31 +111,22 @@ fn read(to: &mut impl Write, p: &[u8]) -> io::Result<()> {
     let file = &mut all[0..n];
     lay_all(file, &p[8..]);
     print_found(to, file)?;
-    print_body(to, file, 0)?;
-    print_body(to, file, 1)?;
-    print_body(to, file, 2)?;
-    print_body(to, file, 3)?;
-    print_body(to, file, 4)?;
-    print_body(to, file, 5)?;
-    print_body(to, file, 6)?;
+    for kind in 0..7u32 {
+        print_body(to, file, kind)?;
+    }
     cases::print(to, b"")
 }
 
 // Writes a batch to a file: the answer's number, and the digest of the file's range.
 fn print_written(
     to: &mut impl Write,
-    width: u32,
-    blocks: u32,
-    batch: u64,
-    setup: &[u8],
-    correction: &[u8],
-    key: &[u8],
-    check: &[u8],
+    head: FileHead,
+    bodies: Bodies<'_>,
     file: &mut [u8],
 ) -> io::Result<()> {
-    let result = filewriter::write(width, blocks, batch, setup, correction, key, check, file);
+    let answer = filewriter::write(head, bodies, file);
     let mut line = [0u8; 33];
-    line[0] = (answer::number_of(result) % 256) as u8;
+    line[0] = (answer::number_of(answer) % 256) as u8;
     words::copy_part(&mut line, 1, &sha256::one::digest(file));
     cases::print(to, &line)
 }
@@ -121,20 +144,18 @@ fn write_parts(
 ) -> io::Result<()>
     requires { (40 ≤ length p.now) × (correction ≤ key) × (key ≤ check) × (check ≤ end) × (end ≤ length bodies.now) }
 {
-    let width = words::load32(p, 0);
-    let blocks = words::load32(p, 4);
-    let batch = words::load64(p, 8);
-    print_written(
-        to,
-        width,
-        blocks,
-        batch,
-        &bodies[0..correction],
-        &bodies[correction..key],
-        &bodies[key..check],
-        &bodies[check..end],
-        file,
-    )
+    let head = FileHead {
+        width: words::load32(p, 0),
+        blocks: words::load32(p, 4),
+        batch: words::load64(p, 8),
+    };
+    let bodies = Bodies {
+        setup: &bodies[0..correction],
+        correction: &bodies[correction..key],
+        key: &bodies[key..check],
+        check: &bodies[check..end],
+    };
+    print_written(to, head, bodies, file)
 }
 
 // Width, blocks and batch number, the lengths of setup, correction, key, check and file, and a seed. Its first range gives the bodies, one
@@ -161,23 +182,14 @@ fn write(to: &mut impl Write, p: &[u8]) -> io::Result<()> {
 
 // Writes what reading a file finds.
 fn print_again(to: &mut impl Write, file: &[u8], out: &mut [u8]) -> io::Result<()> {
-    let found = batchfile::find(file);
-    let head = found.head;
-    let setup = filereader::body_of(file, 1);
-    let correction = filereader::body_of(file, 3);
-    let key = filereader::body_of(file, 4);
-    let check = filereader::body_of(file, 5);
-    print_written(
-        to,
-        head.width,
-        head.blocks,
-        head.batch,
-        setup,
-        correction,
-        key,
-        check,
-        out,
-    )
+    let head = batchfile::find(file).map_or(FileHead::default(), |found| found.head);
+    let bodies = Bodies {
+        setup: filereader::body_of(file, 1),
+        correction: filereader::body_of(file, 3),
+        key: filereader::body_of(file, 4),
+        check: filereader::body_of(file, 5),
+    };
+    print_written(to, head, bodies, out)
 }
 
 // The length of a range, and a file that is sent as to be read: it is read, and what is found is written to the seed's second range.
@@ -209,25 +221,12 @@ fn case(to: &mut impl Write, kind: u8, p: &[u8]) -> io::Result<()> {
     }
 }
 
-// Records one after the other: a kind, the length of what follows in 4 bytes, and that.
-fn run(to: &mut impl Write, s: &[u8]) -> io::Result<()> {
-    let mut at = 0;
-    while 5 <= s.len() - at {
-        let body = at + 5;
-        let n = words::load32(s, at + 1) as usize;
-        if s.len() - body < n {
-            return Ok(());
-        }
-        let end = body + n;
-        case(to, s[at], &s[body..end])?;
-        at = end;
-    }
-    Ok(())
-}
-
 fn main(rt: HostRuntime) -> io::Result<()> {
     let mut buffer = cases::million(0);
     let n = cases::read_full(&mut rt.stdin(), &mut buffer)?;
     let mut to = rt.stdout();
-    run(&mut to, &buffer[..n])
+    for record in (Records { rest: &buffer[..n] }) {
+        case(&mut to, record.kind, record.payload)?;
+    }
+    Ok(())
 }

@@ -9,8 +9,6 @@ fn main(rt: HostRuntime) -> io::Result<()> {
     // One byte more than the longest input, so that a longer one is seen to be too long.
     let mut buffer = [0u8; 137];
     let n = cases::read_full(&mut rt.stdin(), &mut buffer)?;
-    let line = foldtext::line(&buffer[..n]);
-    let len = line.len;
-    let bytes = line.bytes;
-    rt.stdout().write_all(&bytes[..len])
+    rt.stdout()
+        .write_all(foldtext::line(&buffer[..n]).as_bytes())
 }

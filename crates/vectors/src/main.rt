@@ -5,6 +5,8 @@
 
 ghost use Rattle.std.specs.Prelude.{◌+◌, ◌≤◌, length};
 
+use answer::Refusal;
+use cases::input::Records;
 use std::io;
 use std::io::Write;
 
@@ -107,9 +109,9 @@ fn end_of(p: &[u8], at: usize, start: usize) -> usize
 }
 
 // An answer's number and the digest of a range.
-fn print_answer(to: &mut impl Write, res: answer::Answer, s: &[u8]) -> io::Result<()> {
+fn print_answer(to: &mut impl Write, answer: Result<(), Refusal>, s: &[u8]) -> io::Result<()> {
     let mut line = [0u8; 33];
-    line[0] = (answer::number_of(res) % 256) as u8;
+    line[0] = (answer::number_of(answer) % 256) as u8;
     words::copy_part(&mut line, 1, &sha256::one::digest(s));
     cases::print(to, &line)
 }
@@ -163,10 +165,7 @@ fn sender_setup(to: &mut impl Write, p: &[u8]) -> io::Result<()> {
 
 // An input of foldprint: its line.
 fn line(to: &mut impl Write, p: &[u8]) -> io::Result<()> {
-    let l = foldtext::line(p);
-    let len = l.len;
-    let bytes = l.bytes;
-    to.write_all(&bytes[..len])
+    to.write_all(foldtext::line(p).as_bytes())
 }
 
 fn case(to: &mut impl Write, kind: u8, p: &[u8]) -> io::Result<()> {
@@ -185,25 +184,12 @@ fn case(to: &mut impl Write, kind: u8, p: &[u8]) -> io::Result<()> {
     }
 }
 
-// Records one after the other: a kind, the length of what follows in 4 bytes, and that.
-fn run(to: &mut impl Write, s: &[u8]) -> io::Result<()> {
-    let mut at = 0;
-    while 5 <= s.len() - at {
-        let body = at + 5;
-        let n = words::load32(s, at + 1) as usize;
-        if s.len() - body < n {
-            return Ok(());
-        }
-        let end = body + n;
-        case(to, s[at], &s[body..end])?;
-        at = end;
-    }
-    Ok(())
-}
-
 fn main(rt: HostRuntime) -> io::Result<()> {
     let mut buffer = cases::million(0);
     let n = cases::read_full(&mut rt.stdin(), &mut buffer)?;
     let mut to = rt.stdout();
-    run(&mut to, &buffer[..n])
+    for record in (Records { rest: &buffer[..n] }) {
+        case(&mut to, record.kind, record.payload)?;
+    }
+    Ok(())
 }
