@@ -13,8 +13,8 @@ use sha256::rounds::{Schedule, four_rounds};
 const PAD: [u32; 8] = [0x80000000, 0, 0, 0, 0, 0, 0, 256];
 
 // Word at / 4 of the block of message at % 4.
-fn first_word(m: &[u8], at: usize) -> u32
-    requires { (length m.now ≡ 128) × (at < 64) }
+fn first_word(m: &[u8; 128], at: usize) -> u32
+    requires { at < 64 }
     ensures { result ≡ get_or (schedules m.now) at 0 }
 {
     if at < 32 {
@@ -24,8 +24,7 @@ fn first_word(m: &[u8], at: usize) -> u32
     }
 }
 
-fn load(m: &[u8]) -> [u32; 256]
-    requires { length m.now ≡ 128 }
+fn load(m: &[u8; 128]) -> [u32; 256]
     ensures { take 64 result ≡ take 64 (schedules m.now) }
 {
     let mut w = [0u32; 256];
@@ -35,8 +34,7 @@ fn load(m: &[u8]) -> [u32; 256]
     w
 }
 
-fn schedule(m: &[u8]) -> [u32; 256]
-    requires { length m.now ≡ 128 }
+fn schedule(m: &[u8; 128]) -> [u32; 256]
     ensures { result ≡ schedules m.now }
 {
     let mut w = load(m);
@@ -95,7 +93,7 @@ impl Schedule for Lane<'_> {
 }
 
 fn lanes(i: usize, w: &[u32; 256], t: &mut [u32; 32])
-    requires { (i + 3 < 64) × (length t.old ≡ 32) }
+    requires { i + 3 < 64 }
     ensures { t.new ≡ four_in_lanes i w.now t.old }
 {
     for l in 0..4usize {

@@ -1,4 +1,4 @@
-use Rattle.std.proofs.Common.{◌≡◌, refl, ap, ◌∙◌, arith}
+use Rattle.std.proofs.Common.{◌≡◌, length, refl, ap, ◌∙◌, arith, rules}
 use Rattle.words.specs.Lanes.{lane}
 use Rattle.words.proofs.Lanes.{filled_none, filled_more, filled-all, laned-is}
 use Rattle.sha256.specs.Pieces.{four_rounds}
@@ -9,7 +9,8 @@ use Rattle.sha256_four.proofs.lanes.Goals as goal
 pub loop-l-init : goal.loop-l-init
 loop-l-init c =
     let a = c.args in
-    filled_none 8 (after a.i a.w.now a.t.now) a.t.now c.requires.1
+    let len : length a.t.now ≡ 32 = search rules in
+    filled_none 8 (after a.i a.w.now a.t.now) a.t.now len
 
 pub loop-l-preserved : goal.loop-l-preserved
 loop-l-preserved c =

@@ -1,17 +1,14 @@
-use Rattle.std.proofs.Common.{◌*◌, length, ap, ◌∙◌, arith}
+use Rattle.std.proofs.Common.{◌*◌, ap, ◌∙◌}
 use Rattle.sha256.specs.declared.Work.{Work}
 use Rattle.sha256.specs.Sha.{rounds}
 use Rattle.words.specs.Lanes.{laned}
 use Rattle.sha256_four.specs.FourDigests.{words_of, four_in_lanes, rounds_in_lanes}
-use Rattle.sha256_four.proofs.InLanes.{lanes-length, lanes-stepped}
+use Rattle.sha256_four.proofs.InLanes.{lanes-stepped}
 use Rattle.sha256_four.proofs.rounds.Goals as goal
 
 pub loop-turn-init : goal.loop-turn-init
 unfolding rounds_in_lanes rounds
 loop-turn-init c = c.spread-t.ensures ∙ ap (λ (s : Work). laned 8 (λ l. words_of s)) c.initial.ensures
-
-pub lanes-requires : goal.lanes-requires
-lanes-requires c = (omega arith, ap length c.loop-turn.invariant ∙ lanes-length _ _)
 
 pub loop-turn-preserved : goal.loop-turn-preserved
 loop-turn-preserved c =
