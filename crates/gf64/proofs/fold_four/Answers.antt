@@ -3,7 +3,7 @@ use Rattle.words.specs.Bytes.{word64}
 use Rattle.words.specs.Xor.{◌⊕◌}
 use Rattle.gf64.specs.Table.{word_in}
 use Rattle.gf64.proofs.FoldLaws.{more-word, no_word}
-use Rattle.gf64.proofs.Four.{folds-are}
+use Rattle.gf64.proofs.Four.{product_is, folds-are}
 use Rattle.gf64.proofs.fold_four.Goals as goal
 
 pub loop-j-preserved : goal.loop-j-preserved
@@ -14,7 +14,7 @@ loop-j-preserved c =
     λ g k tab hk.
     let at : ℕ = k * len + 8 * h.j in
     more-word g (word_in h.acc k) _ (len / 8 - h.j) (len / 8 - (h.j + 1)) at (k * len + 8 * (h.j + 1)) s (omega arith) (omega arith)
-    (c.add_words.ensures k hk ∙ ap (λ (z : ℕ). z ⊕ word64 s at) (c.products-r.ensures g k tab hk))
+    (c.add_words.ensures k hk ∙ ap (λ (z : ℕ). z ⊕ word64 s at) (c.products-r.ensures k hk ∙ product_is g k c.args.t.now (word_in h.acc k) tab hk))
     ∙ h.invariant g k tab hk
 
 pub returns : goal.returns

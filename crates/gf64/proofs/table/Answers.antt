@@ -1,7 +1,7 @@
 use Rattle.std.proofs.Common.{◌≡◌, ℕ, suc, ◌+◌, ◌/◌, get_or, set, refl, ap, ◌∙◌, not-suc-le-zero, arith, length-set, get_or-set_other, get_or-set_same, ext_get_or, below_more}
 use Rattle.gf64.specs.Field.{times_x}
-use Rattle.gf64.specs.Table.{power, key_table}
-use Rattle.gf64.proofs.Four.{power-up, key_rows-length, entry_at}
+use Rattle.gf64.specs.Table.{key_table}
+use Rattle.gf64.proofs.Four.{power, power-up, key_rows-length, entry_at}
 use Rattle.gf64.proofs.table.Goals as goal
 use Rattle.gf64.proofs.table.Goals.{then-m-eq7, else-m-eq7}
 

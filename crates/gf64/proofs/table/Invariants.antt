@@ -1,6 +1,7 @@
 -- The entries below m are right, and p is the word of row m / 8.
 use Rattle.std.proofs.Common.{◌≡◌, ℕ, ◌/◌, ◌<◌, length, get_or}
-use Rattle.gf64.specs.Table.{power, key_table}
+use Rattle.gf64.specs.Table.{key_table}
+use Rattle.gf64.proofs.Four.{power}
 use Rattle.gf64.proofs.table.Given as goal
 
 abbrev pub invariant-loop-m : goal.invariant-loop-m
