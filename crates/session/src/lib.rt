@@ -92,10 +92,9 @@ pub fn sender_correct(
         return Stepped { answer, record: r };
     }
     let len = sizes::column_length(blocks);
-    let n = sizes::trees_of(r.width);
+    let trees = Trees::of(r.width);
     sender_columns::correct(
-        n,
-        r.width as usize,
+        trees,
         stream_of(batch),
         len,
         siblings,

@@ -1,6 +1,6 @@
-use Rattle.std.proofs.Common.{◌≡◌, ℕ, length, true, refl, sym, ap, ◌∙◌, arith}
+use Rattle.std.proofs.Common.{refl, sym, ap, ◌∙◌}
 use Rattle.answer.specs.Answer.{is_done}
-use Rattle.rules.proofs.Fits.{AnswerTells, answer-fits}
+use Rattle.rules.proofs.Fits.{answer-fits}
 use Rattle.session.proofs.receiver_answer.Goals as goal
 
 pub write_message-requires : goal.write_message-requires

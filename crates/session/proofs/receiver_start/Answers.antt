@@ -1,8 +1,8 @@
-use Rattle.std.proofs.Common.{◌≡◌, ℕ, ◌*◌, ◌-◌, length, refl, sym, ap, ◌∙◌, mul_assoc, arith}
+use Rattle.std.proofs.Common.{ℕ, ◌*◌, sym, ap, ◌∙◌, mul_assoc, arith}
 use Rattle.answer.specs.Answer.{is_done}
 use Rattle.sizes.specs.Sizes.{trees_of, column_length}
 use Rattle.sizes.proofs.Widths.{width_fits}
-use Rattle.rules.proofs.Fits.{StartTells, start_fits}
+use Rattle.rules.proofs.Fits.{start_fits}
 use Rattle.session.proofs.receiver_start.Goals as goal
 
 pub of-trees-requires : goal.of-trees-requires
