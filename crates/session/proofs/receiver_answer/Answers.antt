@@ -19,7 +19,7 @@ returns c =
     let h = answer-fits c.args.r c.args.key _ _ _ _ (ap is_done (sym c.receiver_answer-answer.ensures) ∙ done) in
     record {
       answered = c.receiver_answer-answer.ensures;
-      recorded = rw done c.without_batch-record.ensures;
+      recorded = rw done c.without_batch.ensures;
       told = rw done (rw (sym h.choices-long) c.write_message.ensures);
       padded = rw done c.receiver_pads.ensures;
     }

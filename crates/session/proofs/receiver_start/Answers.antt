@@ -39,7 +39,7 @@ returns c =
     let stream = c.stream_of.ensures in
     record {
       answered = c.receiver_start-answer.ensures;
-      recorded = rw done c.with_batch-record.ensures;
+      recorded = rw done c.with_batch.ensures;
       chosen = rw done (rw long at (rw stream at (rw k at c.start.ensures.choices_after)));
       filled = rw done (rw long at (rw stream at (rw k at (rw n at c.start.ensures.table_after))));
       corrected = rw done (rw long at (rw stream at (rw k at (rw n at c.start.ensures.correction_after))));

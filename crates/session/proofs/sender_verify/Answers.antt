@@ -36,7 +36,7 @@ returns-then-not-accepts c =
       answered =
           decided c.args.r c.args.key _ _ _ _ c.sender_verify-answer.result _ false c.sender_verify-answer.ensures c.if-is_err.ensures.negation
           (rw (sym c.column_length-len.ensures) (sym c.accepts.ensures ∙ c.if-not-accepts.true));
-      recorded = c.closed-record.ensures;
+      recorded = c.closed.ensures;
       padded = refl;
     }
 
@@ -53,6 +53,6 @@ returns c =
       answered = is-done _ done
           ∙ decided c.args.r c.args.key _ _ _ _ c.sender_verify-answer.result _ true e done
           (rw (sym c.column_length-len.ensures) (sym c.accepts.ensures ∙ c.if-not-accepts.false));
-      recorded = rw done c.without_batch-record.ensures;
+      recorded = rw done c.without_batch.ensures;
       padded = rw done c.sender_pads.ensures;
     }
