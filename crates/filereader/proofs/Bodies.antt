@@ -9,13 +9,11 @@ use lib.ListN.{length}
 use denote.Ref.{Bor}
 use Rattle.words.specs.Bytes.{Range}
 use Rattle.sizes.specs.Sizes.{check_message_length}
-use Rattle.answer.specs.declared.Answer.{Answer}
-use Rattle.answer.specs.declared.Answer.TheVariants.{Done}
-use Rattle.answer.specs.Answer.{is_done, when_done}
+use Rattle.answer.specs.Answer.{Answer, Done, is_done, when_done}
 use Rattle.answer.proofs.Order.{new-when, old-when, not_done}
 use Rattle.batchfile.specs.declared.FileHead.{FileHead}
 use Rattle.batchfile.specs.declared.Places.{Places}
-use Rattle.batchfile.specs.File.{body_of, read_order, read_answer, Taken, body_between, ReadFile}
+use Rattle.batchfile.specs.File.{body_of, read_answer, Taken, body_between, ReadFile}
 use Rattle.batchfile.proofs.Bodies.{found-bodies}
 use Rattle.batchfile.proofs.Reading.{done-taken}
 use Rattle.batchfile.proofs.Taken.{taken-tells}
@@ -33,7 +31,7 @@ module _ (file : Bor Range) (kind : ℕ) (s : Bor Range) (out : HandsOut (reader
   nothing-of refused =
       bytes-are
       ∙ old-when (read_answer file.now) (body_of file.now kind) []
-      (not_done (read_order file.now) (read_answer file.now) refl refl refused)
+      (not_done (read_answer file.now) refused)
 
 -- what stands between the places that `batchfile::find` gives of a file is what the reader hands out
 pub between : (file : Bor Range) (kind : ℕ) (s : Bor Range) (answer : Answer) (head : FileHead) (places : Places)

@@ -16,21 +16,10 @@ pub record PartOf (file : Bor Range) (a e : ℕ) (s : Bor Range) : Type 0 where
 abbrev pub BodyPart : (file : Bor Range) (p : Places) (kind : ℕ) (s : Bor Range) → Type 0
 BodyPart file p kind s = PartOf file (begin_of p (length file.now) kind) (end_of p (length file.now) kind) s
 
--- where the five begin, in the order of their kinds
-abbrev pub places_at : (setup head correction key check : ℕ) → Places
-places_at setup head correction key check = record { setup = setup; head = head; correction = correction; key = key; check = check }
-
--- the reader: the file and five places in it
-abbrev pub reader_at : (file : Bor Range) (p : Places) → Reader
-reader_at file p = record { file = file; setup = p.setup; head = p.head; correction = p.correction; key = p.key; check = p.check }
-
-abbrev pub places_in : (r : Reader) → Places
-places_in r = places_at r.setup r.head r.correction r.key r.check
-
 -- the reader hands out each body as a part of the file
 abbrev pub HandsOut : (r : Reader) (kind : ℕ) (s : Bor Range) → Type 0
-HandsOut r kind s = BodyPart r.file (places_in r) kind s
+HandsOut r kind s = BodyPart r.file r.places kind s
 
 -- the reader of a file: the file itself, and the places found in it
 abbrev pub reader_over : (file : Bor Range) → Reader
-reader_over file = reader_at file (places_found file.now)
+reader_over file = record { file = file; places = places_found file.now }

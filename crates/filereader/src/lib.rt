@@ -3,42 +3,34 @@
 
 ghost use Rattle.std.specs.Prelude.{◌≡◌};
 ghost use Rattle.batchfile.specs.File.{places_found};
-ghost use Rattle.filereader.specs.Reading.{PartOf, BodyPart, HandsOut, places_at, reader_over};
+ghost use Rattle.filereader.specs.Reading.{PartOf, HandsOut, reader_over};
 
-use batchfile::Places;
+use batchfile::{Kind, Places};
 
 // The file, and where its five bodies begin.
 #[derive(Clone, Copy)]
 pub struct Reader<'a> {
     pub file: &'a [u8],
-    pub setup: usize,
-    pub head: usize,
-    pub correction: usize,
-    pub key: usize,
-    pub check: usize,
+    pub places: Places,
 }
 
 // Where the bodies of a file begin.
 fn find_places(file: &[u8]) -> Places
     ensures { result ≡ places_found file.now }
 {
-    let found = batchfile::find(file);
-    let places = found.places;
-    places
+    match batchfile::find(file) {
+        Ok(found) => found.places,
+        Err(_) => Places::nowhere(file.len()),
+    }
 }
 
 // Reads a file, whatever it holds.
 pub fn read<'a>(file: &'a [u8]) -> Reader<'a>
     ensures { result ≡ reader_over file.entry }
 {
-    let at = find_places(file);
     Reader {
         file,
-        setup: at.setup,
-        head: at.head,
-        correction: at.correction,
-        key: at.key,
-        check: at.check,
+        places: find_places(file),
     }
 }
 
@@ -46,55 +38,24 @@ pub fn read<'a>(file: &'a [u8]) -> Reader<'a>
 fn part_of<'a>(file: &'a [u8], a: usize, e: usize) -> &'a [u8]
     ensures { PartOf file.entry a e result }
 {
-    let n = file.len();
-    if n < a {
-        return &file[n..n];
-    }
-    if e < a {
-        return &file[a..a];
-    }
-    if n < e {
-        return &file[a..n];
-    }
-    &file[a..e]
+    let start = a.min(file.len());
+    &file[start..e.clamp(start, file.len())]
 }
 
-// The body of a kind, by five places.
-fn body_at<'a>(
-    file: &'a [u8],
-    setup: usize,
-    head: usize,
-    correction: usize,
-    key: usize,
-    check: usize,
-    kind: u32,
-) -> &'a [u8]
-    ensures { BodyPart file.entry (places_at setup head correction key check) kind result }
-{
-    let n = file.len();
-    if kind == 1 {
-        return part_of(file, setup, head);
-    }
-    if kind == 2 {
-        return part_of(file, head, correction);
-    }
-    if kind == 3 {
-        return part_of(file, correction, key);
-    }
-    if kind == 4 {
-        return part_of(file, key, check);
-    }
-    if kind == 5 {
-        return part_of(file, check, n);
-    }
-    part_of(file, n, n)
-}
-
-// The body of a kind: 1 the setup, 2 the head, 3 the correction, 4 the key, 5 the check.
+// The body of a kind: 1 the setup, 2 the head, 3 the correction, 4 the key, 5 the check. Any other number has none.
 pub fn body<'a>(r: Reader<'a>, kind: u32) -> &'a [u8]
     ensures { HandsOut r.entry kind result }
 {
-    body_at(r.file, r.setup, r.head, r.correction, r.key, r.check, kind)
+    let p = r.places;
+    let end = r.file.len();
+    match Kind::try_from(kind) {
+        Ok(Kind::Setup) => part_of(r.file, p.setup, p.head),
+        Ok(Kind::Head) => part_of(r.file, p.head, p.correction),
+        Ok(Kind::Correction) => part_of(r.file, p.correction, p.key),
+        Ok(Kind::Key) => part_of(r.file, p.key, p.check),
+        Ok(Kind::Check) => part_of(r.file, p.check, end),
+        Err(_) => part_of(r.file, end, end),
+    }
 }
 
 // The same of a file. Its parameters are plain, so whoever calls it needs no proof by hand.
