@@ -13,7 +13,6 @@ ghost use Rattle.host.specs.File.{file_read};
 use batchfile::{BatchFile, FileHead, Places};
 use filewriter::Bodies;
 use rules::Record;
-use session::Stepped;
 
 // The receiver's setup. It returns the answer's number.
 pub fn softspoken_receiver_setup(
@@ -46,9 +45,9 @@ pub fn softspoken_sender_setup(
 pub fn softspoken_open(rec: &mut Record, width: u32) -> u32
     ensures { Numbered (λ answer. OpenSession rec.old width answer rec.new) result }
 {
-    let Stepped { answer, record } = session::open(*rec, width);
-    *rec = record;
-    answer::number_of(answer)
+    let step = session::open(*rec, width);
+    *rec = step.record;
+    answer::number_of(step.answer)
 }
 
 // The receiver's start on a lent record. It returns the answer's number.
@@ -63,11 +62,9 @@ pub fn softspoken_receiver_start(
 ) -> u32
     ensures { Numbered (λ answer. ReceiverStart rec.old roots.now batch blocks choices.old table.old correction.old answer rec.new choices.new table.new correction.new) result }
 {
-    let Stepped { answer, record } = session::receiver_start(
-        *rec, roots, batch, blocks, choices, table, correction,
-    );
-    *rec = record;
-    answer::number_of(answer)
+    let step = session::receiver_start(*rec, roots, batch, blocks, choices, table, correction);
+    *rec = step.record;
+    answer::number_of(step.answer)
 }
 
 // The sender's correction on a lent record. It returns the answer's number.
@@ -82,11 +79,9 @@ pub fn softspoken_sender_correct(
 ) -> u32
     ensures { Numbered (λ answer. SenderCorrect rec.old siblings.now delta.now batch blocks correction.now table.old answer rec.new table.new) result }
 {
-    let Stepped { answer, record } = session::sender_correct(
-        *rec, siblings, delta, batch, blocks, correction, table,
-    );
-    *rec = record;
-    answer::number_of(answer)
+    let step = session::sender_correct(*rec, siblings, delta, batch, blocks, correction, table);
+    *rec = step.record;
+    answer::number_of(step.answer)
 }
 
 // The receiver's answer on a lent record. It returns the answer's number.
@@ -100,11 +95,9 @@ pub fn softspoken_receiver_answer(
 ) -> u32
     ensures { Numbered (λ answer. ReceiverAnswer rec.old key choices.now table.now message.old pads.old answer rec.new message.new pads.new) result }
 {
-    let Stepped { answer, record } = session::receiver_answer(
-        *rec, key, choices, table, message, pads,
-    );
-    *rec = record;
-    answer::number_of(answer)
+    let step = session::receiver_answer(*rec, key, choices, table, message, pads);
+    *rec = step.record;
+    answer::number_of(step.answer)
 }
 
 // The sender's verify on a lent record. It returns the answer's number.
@@ -118,9 +111,9 @@ pub fn softspoken_sender_verify(
 ) -> u32
     ensures { Numbered (λ answer. SenderVerify rec.old key table.now delta.now message.now pads.old answer rec.new pads.new) result }
 {
-    let Stepped { answer, record } = session::sender_verify(*rec, key, table, delta, message, pads);
-    *rec = record;
-    answer::number_of(answer)
+    let step = session::sender_verify(*rec, key, table, delta, message, pads);
+    *rec = step.record;
+    answer::number_of(step.answer)
 }
 
 // What reading a file gives back: the answer's number, the head's values, where each body begins, and the file's end. A body reaches from its

@@ -63,8 +63,10 @@ pub fn receiver_start(
     }
     let trees = Trees::of(r.width);
     receiver_columns::start(trees, stream_of(batch), roots, choices, table, correction);
-    let record = r.with_batch(batch, blocks);
-    Stepped { answer, record }
+    Stepped {
+        answer,
+        record: r.with_batch(batch, blocks),
+    }
 }
 
 // The sender's correction: its table of a new batch, from the correction that it received.
@@ -92,10 +94,9 @@ pub fn sender_correct(
         return Stepped { answer, record: r };
     }
     let len = sizes::column_length(blocks);
-    let n = sizes::trees_of(r.width);
+    let trees = Trees::of(r.width);
     sender_columns::correct(
-        n,
-        r.width as usize,
+        trees,
         stream_of(batch),
         len,
         siblings,
@@ -103,8 +104,10 @@ pub fn sender_correct(
         correction,
         table,
     );
-    let record = r.with_batch(batch, blocks);
-    Stepped { answer, record }
+    Stepped {
+        answer,
+        record: r.with_batch(batch, blocks),
+    }
 }
 
 // The receiver's answer: the check message under the sender's key, and the receiver's pads.
@@ -131,8 +134,10 @@ pub fn receiver_answer(
     }
     consistency::write_message(sizes::COLUMNS, key, choices, table, message);
     pads::receiver_pads(r.blocks as usize, r.last, table, pads);
-    let record = r.without_batch();
-    Stepped { answer, record }
+    Stepped {
+        answer,
+        record: r.without_batch(),
+    }
 }
 
 // The sender's verify: the check of the receiver's message under the key that the sender chose, and the sender's pads.
@@ -152,13 +157,14 @@ pub fn sender_verify(
     }
     let len = sizes::column_length(r.blocks);
     if !consistency::accepts(sizes::COLUMNS, len, key, table, delta, message) {
-        let record = r.closed();
         return Stepped {
             answer: Err(Refusal::Check),
-            record,
+            record: r.closed(),
         };
     }
     pads::sender_pads(r.blocks as usize, r.last, table, delta, pads);
-    let record = r.without_batch();
-    Stepped { answer, record }
+    Stepped {
+        answer,
+        record: r.without_batch(),
+    }
 }

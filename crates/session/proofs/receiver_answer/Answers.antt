@@ -1,6 +1,6 @@
-use Rattle.std.proofs.Common.{◌≡◌, ℕ, length, true, refl, sym, ap, ◌∙◌, arith}
+use Rattle.std.proofs.Common.{refl, sym, ap, ◌∙◌}
 use Rattle.answer.specs.Answer.{is_done}
-use Rattle.rules.proofs.Fits.{AnswerTells, answer-fits}
+use Rattle.rules.proofs.Fits.{answer-fits}
 use Rattle.session.proofs.receiver_answer.Goals as goal
 
 pub write_message-requires : goal.write_message-requires
@@ -19,7 +19,7 @@ returns c =
     let h = answer-fits c.args.r c.args.key _ _ _ _ (ap is_done (sym c.receiver_answer-answer.ensures) ∙ done) in
     record {
       answered = c.receiver_answer-answer.ensures;
-      recorded = rw done c.without_batch-record.ensures;
+      recorded = rw done c.without_batch.ensures;
       told = rw done (rw (sym h.choices-long) c.write_message.ensures);
       padded = rw done c.receiver_pads.ensures;
     }

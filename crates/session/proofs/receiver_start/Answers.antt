@@ -1,8 +1,8 @@
-use Rattle.std.proofs.Common.{◌≡◌, ℕ, ◌*◌, ◌-◌, length, refl, sym, ap, ◌∙◌, mul_assoc, arith}
+use Rattle.std.proofs.Common.{ℕ, ◌*◌, sym, ap, ◌∙◌, mul_assoc, arith}
 use Rattle.answer.specs.Answer.{is_done}
 use Rattle.sizes.specs.Sizes.{trees_of, column_length}
 use Rattle.sizes.proofs.Widths.{width_fits}
-use Rattle.rules.proofs.Fits.{StartTells, start_fits}
+use Rattle.rules.proofs.Fits.{start_fits}
 use Rattle.session.proofs.receiver_start.Goals as goal
 
 pub of-trees-requires : goal.of-trees-requires
@@ -39,7 +39,7 @@ returns c =
     let stream = c.stream_of.ensures in
     record {
       answered = c.receiver_start-answer.ensures;
-      recorded = rw done c.with_batch-record.ensures;
+      recorded = rw done c.with_batch.ensures;
       chosen = rw done (rw long at (rw stream at (rw k at c.start.ensures.choices_after)));
       filled = rw done (rw long at (rw stream at (rw k at (rw n at c.start.ensures.table_after))));
       corrected = rw done (rw long at (rw stream at (rw k at (rw n at c.start.ensures.correction_after))));

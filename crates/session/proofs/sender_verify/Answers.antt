@@ -1,12 +1,10 @@
-use Rattle.std.proofs.Common.{◌≡◌, ℕ, length, Bool, true, false, cond, [], ◌∷◌, refl, sym, ap, ◌∙◌, Err, arith}
-use Rattle.words.specs.Bytes.{Range}
+use Rattle.std.proofs.Common.{◌≡◌, ℕ, Bool, true, false, cond, refl, sym, ap, ◌∙◌, Err, arith}
 use Rattle.answer.specs.declared.Refusal.TheVariants.{Check}
 use Rattle.answer.specs.Answer.{Answer, Done, is_done, first_of}
-use Rattle.answer.proofs.Order.{AllHold, all_hold, last-decides, first-refused, not-failed, is-done}
-use Rattle.sizes.specs.Sizes.{columns}
+use Rattle.answer.proofs.Order.{all_hold, last-decides, first-refused, not-failed, is-done}
 use Rattle.rules.specs.declared.Record.{Record}
 use Rattle.rules.specs.Orders.{before_check, verify_order, closed}
-use Rattle.rules.proofs.Fits.{VerifyTells, verify-fits}
+use Rattle.rules.proofs.Fits.{verify-fits}
 use Rattle.session.proofs.sender_verify.Goals as goal
 
 -- where the steps before the check are done the check decides
@@ -38,7 +36,7 @@ returns-then-not-accepts c =
       answered =
           decided c.args.r c.args.key _ _ _ _ c.sender_verify-answer.result _ false c.sender_verify-answer.ensures c.if-is_err.ensures.negation
           (rw (sym c.column_length-len.ensures) (sym c.accepts.ensures ∙ c.if-not-accepts.true));
-      recorded = c.closed-record.ensures;
+      recorded = c.closed.ensures;
       padded = refl;
     }
 
@@ -55,6 +53,6 @@ returns c =
       answered = is-done _ done
           ∙ decided c.args.r c.args.key _ _ _ _ c.sender_verify-answer.result _ true e done
           (rw (sym c.column_length-len.ensures) (sym c.accepts.ensures ∙ c.if-not-accepts.false));
-      recorded = rw done c.without_batch-record.ensures;
+      recorded = rw done c.without_batch.ensures;
       padded = rw done c.sender_pads.ensures;
     }
