@@ -51,15 +51,13 @@ fn hand_out_four(i: usize, u: &[u32], choices: &mut [u8], correction: &mut [u8])
     }
 }
 
-// The sums u of four trees from tree i on, each where it goes, and their columns, len bytes each. u and v are room to work in, whatever
-// they hold.
-// They stay two slices: of a slice the caller knows that it keeps its length, but of a struct that holds them, lent to be written, each
-// clause would have to say that, and that k and len stay.
+// The sums u of four trees from tree i on, each where it goes, and their columns, each as long as the choices. u and v are room to work
+// in, whatever they hold. They stay two slices: a slice that is lent keeps its length, but of a struct that holds both each clause would
+// have to say that it keeps k and the lengths.
 fn four_trees(
     i: usize,
     k: usize,
     stream: Stream,
-    len: usize,
     roots: &[u8],
     u: &mut [u32],
     v: &mut [u32],
@@ -67,11 +65,12 @@ fn four_trees(
     correction: &mut [u8],
     table: &mut [u8],
 )
-    requires work_fits { WorkFits k len u.old v.old }
-    requires four_start_fits { FourStartFits i k len roots.now choices.old correction.old table.old }
-    ensures correction_after { choices.new ++ correction.new ≡ put (choices.old ++ correction.old) (i * len) (concat 4 (λ l. u_of k (byte_of stream) len (root_of roots.now l))) }
-    ensures table_after { table.new ≡ concat 4 (λ l. concat k (receiver_column k (byte_of stream) len (root_of roots.now l))) }
+    requires work_fits { WorkFits k (length choices.old) u.old v.old }
+    requires four_start_fits { FourStartFits i k (length choices.old) roots.now choices.old correction.old table.old }
+    ensures correction_after { choices.new ++ correction.new ≡ put (choices.old ++ correction.old) (i * length choices.old) (concat 4 (λ l. u_of k (byte_of stream) (length choices.old) (root_of roots.now l))) }
+    ensures table_after { table.new ≡ concat 4 (λ l. concat k (receiver_column k (byte_of stream) (length choices.old) (root_of roots.now l))) }
 {
+    let len = choices.len();
     walk_roots(k, stream, roots, u, v);
     hand_out_four(i, &u[0..len], choices, correction);
     columns::store_trees(k, len, u.len(), v, table);
@@ -81,7 +80,6 @@ fn four_trees(
 fn all_trees(
     trees: Trees,
     stream: Stream,
-    len: usize,
     roots: &[u8],
     u: &mut [u32],
     v: &mut [u32],
@@ -89,12 +87,12 @@ fn all_trees(
     correction: &mut [u8],
     table: &mut [u8],
 )
-    requires work_fits { WorkFits trees.k len u.old v.old }
-    requires start_fits { StartFits trees.n trees.k len roots.now choices.old correction.old table.old }
-    ensures correction_after { choices.new ++ correction.new ≡ concat trees.n (λ i. u_of trees.k (byte_of stream) len (root_of roots.now i)) }
-    ensures table_after { table.new ≡ receiver_table trees.n trees.k (byte_of stream) len roots.now }
+    requires work_fits { WorkFits trees.k (length choices.old) u.old v.old }
+    requires start_fits { StartFits trees.n trees.k (length choices.old) roots.now choices.old correction.old table.old }
+    ensures correction_after { choices.new ++ correction.new ≡ concat trees.n (λ i. u_of trees.k (byte_of stream) (length choices.old) (root_of roots.now i)) }
+    ensures table_after { table.new ≡ receiver_table trees.n trees.k (byte_of stream) (length choices.old) roots.now }
 {
-    let size = trees.k * len;
+    let size = trees.k * choices.len();
     for q in 0..trees.n / 4 {
         let i = 4 * q;
         let next = i + 4;
@@ -106,7 +104,6 @@ fn all_trees(
             i,
             trees.k,
             stream,
-            len,
             &roots[first..last],
             u,
             v,
@@ -132,15 +129,13 @@ pub fn start(
     ensures table_after { table.new ≡ receiver_table trees.n trees.k (byte_of stream) (length choices.old) roots.now }
     ensures correction_after { correction.new ≡ correction_of trees.n trees.k (byte_of stream) (length choices.old) roots.now }
 {
-    let len = choices.len();
-    let room = columns::room(len);
+    let room = columns::room(choices.len());
     let size = trees.k * room;
     let mut u = [0u32; 128];
     let mut v = [0u32; 1024];
     all_trees(
         trees,
         stream,
-        len,
         roots,
         &mut u[0..room],
         &mut v[0..size],

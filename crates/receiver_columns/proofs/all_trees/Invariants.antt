@@ -17,4 +17,4 @@ pub record Stored (n k : ℕ) (stream : ℕ → List ℕ → ℕ) (len : ℕ) (r
 
 abbrev pub invariant-loop-q : goal.invariant-loop-q
 invariant-loop-q l =
-    Stored l.trees.n l.trees.k (byte_of l.stream) l.len l.roots l.fn.u l.fn.v l.fn.choices l.fn.correction l.u l.v l.choices l.correction l.table (4 * l.q)
+    Stored l.trees.n l.trees.k (byte_of l.stream) (length l.fn.choices) l.roots l.fn.u l.fn.v l.fn.choices l.fn.correction l.u l.v l.choices l.correction l.table (4 * l.q)

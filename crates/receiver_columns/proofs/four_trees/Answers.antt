@@ -13,7 +13,7 @@ pub returns-clause-correction_after : goal.returns-clause-correction_after
 returns-clause-correction_after c =
     let s = c.args in
     let fits = c.requires.work_fits in
-    let len = s.len in
+    let len : ℕ = length s.choices.now in
     let stream = byte_of s.stream in
     let u = c.walk_roots.new.u in
     let back : len - 0 ≡ len = omega arith in
@@ -31,7 +31,7 @@ returns-clause-table_after c =
     let s = c.args in
     let fits = c.requires.work_fits in
     let k = s.k in
-    let len = s.len in
+    let len : ℕ = length s.choices.now in
     let stream = byte_of s.stream in
     let v = c.walk_roots.new.v in
     let n : ℕ = length s.u.now in
