@@ -1,7 +1,7 @@
 -- Words added under a mask for each lane. Assumes nothing.
 use mathlib.Core.Path.{◌≡◌, sym, ap, ap₂, ◌∙◌}
 use mathlib.Core.List.{List, [], ◌∷◌}
-use Prim.Native.Nat.{ℕ, zero, suc, ◌-◌, ◌*◌, ◌%◌, ◌^◌, ◌≤◌, ◌<◌}
+use Prim.Native.Nat.{ℕ, ◌-◌, ◌*◌, ◌%◌, ◌^◌, ◌≤◌, ◌<◌}
 use native.Mathlib.Nat.{one-mul}
 use native.Mathlib.Omega.{arith}
 use lib.Bits.{bit_xor, bit_and}
@@ -43,13 +43,6 @@ masked-all l m u sides m0 m1 m2 m3 n low words e0 e1 e2 e3 all a =
 
 abbrev pub every_lane : List ℕ
 every_lane = 1 ∷ 1 ∷ 1 ∷ 1 ∷ []
-
-pub every-side : Sides every_lane
-every-side zero = omega arith
-every-side (suc zero) = omega arith
-every-side (suc (suc zero)) = omega arith
-every-side (suc (suc (suc zero))) = omega arith
-every-side (suc (suc (suc (suc c)))) = omega arith
 
 pub every-lane : (i x : ℕ) → get_or every_lane (i % 4) 0 * x ≡ x
 every-lane i x =

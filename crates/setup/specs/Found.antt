@@ -13,12 +13,6 @@ pub record FourSides (k : ℕ) (sides : List ℕ) : Type 0 where
   pub long : length sides ≡ 4 * k
   pub low : Sides sides
 
--- the room that they are worked out in: t for what is made at each level, nothing yet, and s for the nodes
-pub record LevelsRoom (k : ℕ) (t s : List ℕ) : Type 0 where
-  pub t-long : length t ≡ 64 * k
-  pub s-long : length s ≡ 32 * k
-  pub zero : (i : ℕ) → get_or t i 0 ≡ 0
-
 -- the nodes found in n trees of k levels, from the sides and the unmasked totals of their base transfers
 abbrev pub found_in : (k n : ℕ) (sides totals : List ℕ) → List ℕ
 found_in k n sides totals = concat n (λ i. nodes_found (λ l. get_or sides (i * k + l) 0) (tree_part k 32 i totals) k)

@@ -11,12 +11,12 @@ fn four_messages(k: usize, roots: &[u8], pads: &[u8], message: &mut [u8])
     requires { (k ≤ 8) × (length roots.now ≡ 128) × (length pads.now ≡ 4 * (64 * k)) × (length message.old ≡ 4 * (64 * k)) }
     ensures { message.new ≡ concat 4 (λ i. tree_message k (root_of roots.now i) (tree_part k 64 i pads.now)) }
 {
-    let n = 64 * k;
     let mut nodes = [0u32; 32];
     words::load_lanes(&mut nodes, roots);
-    let mut t = [0u32; 512];
-    tree::totals(&nodes, k, &mut t[0..n]);
-    words::store_lanes(message, &t[0..n]);
+    let mut sums = [0u32; 512];
+    let t = &mut sums[0..64 * k];
+    tree::totals(&nodes, k, t);
+    words::store_lanes(message, t);
     words::xor_into(message, pads);
 }
 

@@ -1,13 +1,12 @@
 // The sender's siblings. Delta enters as a side for each base transfer, and a side as a mask: never a branch or an address.
-ghost use Rattle.std.specs.Prelude.{◌≡◌, List, ℕ, ◌+◌, ◌-◌, ◌*◌, ◌%◌, ◌^◌, ◌≤◌, ◌<◌, length, get_or};
+ghost use Rattle.std.specs.Prelude.{◌≡◌, List, ℕ, ◌+◌, ◌-◌, ◌*◌, ◌%◌, ◌≤◌, ◌<◌, length, get_or};
 ghost use Rattle.words.specs.Bytes.{tabulate, part};
-ghost use Rattle.words.specs.Lanes.{lane_bytes};
 ghost use Rattle.words.specs.Xor.{◌⊕◌, xor_each, xor_part};
 ghost use Rattle.tree.specs.WalkWords.{total_word};
 ghost use Rattle.sizes.specs.Sizes.{columns};
-ghost use Rattle.setup.specs.Setup.{unmasked, nodes_found, siblings_of};
+ghost use Rattle.setup.specs.Setup.{unmasked, siblings_of};
 ghost use Rattle.tree.specs.Sides.{sides_of, Sides};
-ghost use Rattle.setup.specs.Found.{FourSides, LevelsRoom, found_in};
+ghost use Rattle.setup.specs.Found.{FourSides, found_in};
 
 use tree::Trees;
 
@@ -51,12 +50,13 @@ fn take_off(nodes: &mut [u32], totals: &[u32], sides: [u8; 4])
     for i in 0..32 {
         let left = totals[i];
         let ones = tree::side::mask(sides[i % 4]);
-        nodes[i] = nodes[i] ^ (left ^ ((left ^ totals[32 + i]) & ones));
+        nodes[i] ^= left ^ ((left ^ totals[32 + i]) & ones);
     }
 }
 
 // From the nodes found at a level to those of the next, in four trees of k levels: t has what the nodes found above it make at each
-// level, s the nodes found so far and the unmasked totals of the levels after them.
+// level, s the nodes found so far and the unmasked totals of the levels after them. k and sides come apart: a struct of the two would stand
+// in this contract and the next alone, and as it would hold a reference, each clause would have to name its value at the entry.
 fn next_level(k: usize, level: usize, sides: &[u8], t: &mut [u32], s: &mut [u32])
     requires level_bound { (level + 1 < k) × FourSides k sides.now }
     requires t_len { (length t.old ≡ 64 * k) × (length s.old ≡ 32 * k) }
@@ -77,17 +77,6 @@ fn next_level(k: usize, level: usize, sides: &[u8], t: &mut [u32], s: &mut [u32]
     );
 }
 
-// All levels of four trees of k levels.
-fn all_levels(k: usize, sides: &[u8], t: &mut [u32], s: &mut [u32])
-    requires four_sides { FourSides k sides.now }
-    requires levels_room { LevelsRoom k t.old s.old }
-    ensures { (i : ℕ) → i < 4 → lane_bytes i (8 * k) s.new ≡ nodes_found (λ l. get_or sides.now (i * k + l) 0) (lane_bytes i (8 * k) s.old) k }
-{
-    for level in 0..k - 1 {
-        next_level(k, level, sides, t, s);
-    }
-}
-
 // The siblings of four trees of k levels, in the place of their unmasked totals.
 fn four_trees(k: usize, sides: &[u8], siblings: &mut [u8])
     requires { FourSides k sides.now × (length siblings.old ≡ 4 * (32 * k)) }
@@ -98,7 +87,9 @@ fn four_trees(k: usize, sides: &[u8], siblings: &mut [u8])
     let t = &mut made[0..64 * k];
     let s = &mut nodes[0..32 * k];
     words::load_lanes(s, siblings);
-    all_levels(k, sides, t, s);
+    for level in 0..k - 1 {
+        next_level(k, level, sides, t, s);
+    }
     words::store_lanes(siblings, s);
 }
 

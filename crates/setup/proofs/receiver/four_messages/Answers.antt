@@ -1,4 +1,4 @@
-use Rattle.std.proofs.Common.{List, ℕ, ◌-◌, ◌*◌, ◌/◌, length, ap, ◌∙◌, take_at, arith}
+use Rattle.std.proofs.Common.{List, ℕ, ◌*◌, ◌/◌, ap, ◌∙◌, arith}
 use Rattle.words.specs.Bytes.{concat}
 use Rattle.words.specs.Lanes.{lane_bytes}
 use Rattle.words.specs.Xor.{xor_list}
@@ -12,7 +12,5 @@ returns c =
     let made = zeros-added 512 (64 * k) t _ c.totals.ensures (omega (arith, c.requires.0)) in
     c.xor_into.ensures
     ∙ ap (λ (m : List ℕ). xor_list m c.args.pads.now)
-    (c.store_lanes.ensures
-    ∙ ap (λ (t : List ℕ). concat 4 (λ l. lane_bytes l (length t / 4) t)) (take_at t _ (64 * k - 0) (made.0 ∙ omega arith))
-    ∙ ap (λ (n : ℕ). concat 4 (λ l. lane_bytes l (n / 4) t)) made.0)
+    (c.store_lanes.ensures ∙ ap (λ (n : ℕ). concat 4 (λ l. lane_bytes l (n / 4) t)) made.0)
     ∙ four_lanes k c.args.roots.now c.args.pads.now _ t c.load_lanes.ensures made.1
