@@ -1,13 +1,12 @@
 -- What writing that is done tells of what it was given. Assumes nothing.
-use mathlib.Core.Path.{◌≡◌, refl}
+use mathlib.Core.Path.{◌≡◌}
 use mathlib.Core.Bool.{true}
 use mathlib.Core.List.{[], ◌∷◌}
 use Prim.Native.Nat.{ℕ}
 use native.Mathlib.Omega.{arith}
 use lib.ListN.{length}
 use borrow.Author.Tests.{eqb-true, eq-eqb}
-use Rattle.answer.specs.declared.Answer.TheVariants.{Done}
-use Rattle.answer.specs.Answer.{is_done}
+use Rattle.answer.specs.Answer.{Done, is_done}
 use Rattle.answer.proofs.Order.{AllHold, all_hold, hold-more, done-when}
 use Rattle.sizes.specs.Sizes.{head_length}
 use Rattle.rules.specs.Orders.{has}
@@ -30,7 +29,7 @@ pub record WriteTells (h : FileHead) (b : Bodies) (file : ℕ) : Type 0 where
 pub write-tells : (h : FileHead) (b : Bodies) (file : ℕ) → is_done (write_answer h b file) ≡ true → WriteTells h b file
 unfolding write_answer
 write-tells h b file done =
-    let all = all_hold (write_order h b file) refl done in
+    let all = all_hold (write_order h b file) done in
     record {
       allowed = file-fits _ _ _ _ _ _ _ _ _ (all.0, (all.1.0, (all.1.1.0, (all.1.1.1.0, (all.1.1.1.1.0, tt)))));
       exact = eqb-true file (length_of h b) all.1.1.1.1.1.0;

@@ -1,29 +1,29 @@
 -- Paper 02, note 4: what is written is read, what is read may be written, and a batch has one file with a long head. Assumes nothing.
 use mathlib.Core.Path.{◌≡◌, refl, sym, ap, ap₂, ◌∙◌, subst}
-use mathlib.Core.List.{[], ◌∷◌}
+use mathlib.Core.Bool.{Bool, true, false, cond}
+use mathlib.Core.List.{[], ◌∷◌, ◌++◌}
 use Prim.Native.Nat.{ℕ, ◌^◌, ◌<◌}
 use native.Mathlib.Omega.{arith}
 use lib.Dec.{eqb}
 use lib.ListN.{length}
 use Rattle.words.specs.Bytes.{Range, Bytes}
-use Rattle.answer.specs.declared.Answer.{Answer}
-use Rattle.answer.specs.declared.Answer.TheVariants.{Done, Length, Body}
-use Rattle.answer.specs.Answer.{is_done, when_done, first_of}
-use Rattle.answer.specs.Next.{next}
-use Rattle.answer.proofs.Order.{new-when, onward, chain-onward}
+use Rattle.std.specs.Prelude.{Err}
+use Rattle.answer.specs.declared.Refusal.TheVariants.{Length, Body}
+use Rattle.answer.specs.Answer.{Answer, Done, is_done, when_done, Order, first_of}
+use Rattle.answer.proofs.Order.{new-when, all_hold, last-decides, first-refused, onward}
 use Rattle.sizes.specs.Sizes.{head_length, entries_with}
-use Rattle.rules.specs.Orders.{head_right, has}
+use Rattle.rules.specs.Orders.{head_right}
 use Rattle.batchfile.specs.declared.FileHead.{FileHead}
 use Rattle.batchfile.specs.declared.Places.{Places}
 use Rattle.batchfile.specs.File.{body_of, head_of, read_answer, Taken, no_head, head_found, places_found, body_between, ReadFile}
 use Rattle.batchfile.specs.Laid.{head_bytes, Bodies, bodies_of, has_setup, file_with}
-use Rattle.batchfile.proofs.Contents.{none_below}
+use Rattle.batchfile.proofs.Standing.{none_below}
 use Rattle.batchfile.proofs.Bodies.{found-bodies}
 use Rattle.batchfile.proofs.Batch.{Allowed, values_for, head_bytes-length, head-back, answer-laid, bodies-same}
 use Rattle.batchfile.proofs.Again.{head-again, head_bytes_lem, same_count, taken-is-laid, taken-allowed, batch-fits}
 use Rattle.batchfile.proofs.Witness.{Holds, laid-holds}
 use Rattle.filewriter.specs.Write.{file_of, length_of, write_answer, WriteFile}
-use Rattle.filewriter.specs.RoundTrip.{handed_out, LongHead, GivesBack, ReadsAs, WrittenReads, ReadBack, SameBytes, AbsentEmpty, AsTheReader, WrittenAgain}
+use Rattle.filewriter.specs.RoundTrip.{handed_out, LongHead, GivesBack, ReadsAs, WrittenReads, ReadBack, SameBytes, AbsentEmpty, next, AsTheReader, WrittenAgain}
 use Rattle.filewriter.proofs.Done.{file-long, write-tells, write_done}
 
 -- ---- what the reader's promise tells of a file that it takes
@@ -117,6 +117,14 @@ absent-empty file h p r = (
   (λ none. sym (same_count file (taken file h p r)) ∙ ap (λ (s : Range). entries_with (length s)) (sym (body_is file h p r 1) ∙ none)),
 )
 
+-- one condition more, after those of an order
+one_more : (cs : Order) (b : Bool) → first_of (cs ++ ((b, Length) ∷ [])) ≡ next (first_of cs) b Length
+one_more cs b = here (is_done (first_of cs)) refl
+  where
+    here : (done : Bool) → is_done (first_of cs) ≡ done → first_of (cs ++ ((b, Length) ∷ [])) ≡ cond done (cond b Done (Err Length)) (first_of cs)
+    here true e = last-decides cs b Length (all_hold cs e)
+    here false e = first-refused cs ((b, Length) ∷ []) e
+
 pub as-the-reader : AsTheReader
 unfolding write_answer
 as-the-reader h b narrow few fits small file file' answer answer' head p w r =
@@ -128,7 +136,7 @@ as-the-reader h b narrow few fits small file file' answer answer' head p w r =
     ∙ onward ((head_right (length s), Body) ∷ []) _ (ap head_right (head_bytes-length head_length h (omega arith)), tt)
     ∙ ap (λ (x : FileHead). first_of (values_for x (has_setup b) b)) (head-back head_length h narrow few fits) in
     w.answered
-    ∙ sym (chain-onward values (has (length file) (length_of h b) ∷ []) refl refl)
+    ∙ one_more values (eqb (length file) (length_of h b))
     ∙ ap (λ (a : Answer). next a (eqb (length file) (length_of h b)) Length) (sym same)
 
 pub written-again : WrittenAgain

@@ -1,13 +1,17 @@
 -- A batch written to a file. Paper 02, notes 4 and 5. Assumes nothing.
 use Rattle.std.specs.Prelude.{◌≡◌, Bool, [], ◌∷◌, ◌++◌, ℕ, length}
 use Rattle.words.specs.Bytes.{Range, little_endian}
-use Rattle.answer.specs.declared.Answer.{Answer}
-use Rattle.answer.specs.declared.Answer.TheVariants.{Body, Key}
-use Rattle.answer.specs.Answer.{when_done, Order, first_of}
+use Rattle.answer.specs.declared.Refusal.TheVariants.{Body, Key}
+use Rattle.answer.specs.Answer.{Answer, when_done, Order, first_of}
 use Rattle.sizes.specs.Sizes.{head_length, file_length}
 use Rattle.rules.specs.Orders.{key_usable, has, head_order, bodies_right}
 use Rattle.batchfile.specs.declared.FileHead.{FileHead}
-use Rattle.batchfile.specs.Laid.{head_bytes, Bodies, has_setup, file_with}
+use Rattle.batchfile.specs.Laid.{head_bytes, Bodies, bodies_with, has_setup, file_with}
+use Rattle.filewriter.specs.declared.Bodies.{Bodies as LentBodies}
+
+-- the bodies that are lent
+abbrev pub lent : (b : LentBodies) → Bodies
+lent b = bodies_with b.setup.now b.correction.now b.key.now b.check.now
 
 -- always the long head
 abbrev pub file_of : (h : FileHead) (b : Bodies) → Range

@@ -2,17 +2,26 @@
 // key's are looked at.
 #![tactic(auto)]
 
-ghost use Rattle.std.specs.Prelude.{◌≡◌, true, not, [], ◌∷◌, ◌++◌, ◌^◌, ◌≤◌, ◌<◌, eqb, length};
-ghost use Rattle.words.specs.Bytes.{little_endian, bytes};
+ghost use Rattle.std.specs.Prelude.{◌≡◌, true, not, ◌++◌, ◌^◌, ◌≤◌, ◌<◌, eqb, length};
+ghost use Rattle.words.specs.Bytes.{bytes};
 ghost use Rattle.words.specs.Pieces.{Room, Laid};
-ghost use Rattle.answer.specs.Answer.{first_of};
 ghost use Rattle.sizes.specs.Sizes.{width_allowed, setup_message_length, head_length, entries_with, file_length};
-ghost use Rattle.rules.specs.Orders.{most_blocks, has, file_order};
-ghost use Rattle.batchfile.specs.Laid.{place_in, contents_in, head_bytes, head_with, bodies_with};
-ghost use Rattle.filewriter.specs.Write.{file_of, WriteFile};
+ghost use Rattle.rules.specs.Orders.{most_blocks};
+ghost use Rattle.batchfile.specs.Laid.{place_in, contents_in, head_bytes};
+ghost use Rattle.filewriter.specs.Write.{file_of, write_answer, lent, WriteFile};
 ghost use Rattle.filewriter.specs.Lengths.{size_in};
 
-use answer::Answer;
+use answer::{Refusal, require};
+use batchfile::FileHead;
+
+// The bodies of a batch but its head. An empty setup means none.
+#[derive(Clone, Copy)]
+pub struct Bodies<'a> {
+    pub setup: &'a [u8],
+    pub correction: &'a [u8],
+    pub key: &'a [u8],
+    pub check: &'a [u8],
+}
 
 // Whether a setup of so many bytes is one: an empty range means none.
 fn is_there(setup: usize) -> bool
@@ -25,19 +34,16 @@ fn is_there(setup: usize) -> bool
 fn entries_with(setup: usize) -> usize
     ensures { result ≡ entries_with setup }
 {
-    if is_there(setup) {
-        return 5;
-    }
-    4
+    if is_there(setup) { 5 } else { 4 }
 }
 
 // The exact length of the file, where nothing else is refused.
-fn file_length(width: u32, blocks: u32, setup: usize) -> usize
-    requires { (width_allowed width ≡ true) × (blocks ≤ most_blocks) × (setup ≤ setup_message_length) }
-    ensures { result ≡ file_length width blocks setup }
+fn file_length(head: FileHead, setup: usize) -> usize
+    requires { (width_allowed head.width ≡ true) × (head.blocks ≤ most_blocks) × (setup ≤ setup_message_length) }
+    ensures { result ≡ file_length head.width head.blocks setup }
 {
     let contents = batchfile::contents_length(entries_with(setup));
-    let correction = sizes::correction_length(width, blocks);
+    let correction = sizes::correction_length(head.width, head.blocks);
     contents
         + (setup
             + sizes::HEAD_LENGTH
@@ -47,29 +53,21 @@ fn file_length(width: u32, blocks: u32, setup: usize) -> usize
 }
 
 // The answer: by the reader's own rules, and then by the file's length.
-fn write_answer(
-    width: u32,
-    blocks: u32,
-    batch: u64,
-    setup: usize,
-    correction: usize,
-    key: &[u8],
-    check: usize,
-    file: usize,
-) -> Answer
-    ensures { result ≡ first_of (file_order width batch blocks (not (eqb setup 0)) setup correction (length key.now) check (little_endian key.now) ++ (has file (file_length width blocks setup) ∷ [])) }
+#[tactic(auto, unfolding(crate::specs::Write::write_answer, answer::specs::Answer::first_of))]
+fn write_answer(head: FileHead, bodies: Bodies<'_>, file: usize) -> Result<(), Refusal>
+    ensures { result ≡ write_answer head (lent bodies.entry) file }
 {
-    let there = is_there(setup);
-    let answer = batchfile::values::answer(
-        width, batch, blocks, there, setup, correction, key, check,
-    );
-    if answer::is_done(answer) {
-        if file == file_length(width, blocks, setup) {
-            return Answer::Done;
-        }
-        return Answer::Length;
-    }
-    answer
+    let setup = bodies.setup.len();
+    batchfile::values::answer(
+        head,
+        is_there(setup),
+        setup,
+        bodies.correction.len(),
+        bodies.key,
+        bodies.check.len(),
+    )?;
+    require(file == file_length(head, setup), Refusal::Length)?;
+    Ok(())
 }
 
 // Lays an entry over the file from a place on, and returns the place after it. So do the functions that follow, each with a piece of its
@@ -90,80 +88,50 @@ fn lay_contents(file: &mut [u8], n: usize, lengths: [usize; 5]) -> usize
 {
     let mut at = words::lay(file, 0, &words::bytes32(n as u32));
     let mut place = batchfile::contents_length(n);
-    let mut e = 0;
-    while e < n {
+    for e in 0..n {
         let kind = e + 6 - n;
         let length = lengths[kind - 1];
         at = lay_entry(file, at, kind, place, length);
         place += length;
-        e += 1;
     }
     at
 }
 
 // The long head. Numbers beyond a byte were refused before.
-fn lay_head(file: &mut [u8], at: usize, width: u32, blocks: u32, batch: u64) -> usize
-    requires { Room file.old at (head_bytes head_length (head_with width blocks batch)) }
-    ensures { Laid file.old at (head_bytes head_length (head_with width blocks batch)) file.new result }
+fn lay_head(file: &mut [u8], at: usize, head: FileHead) -> usize
+    requires { Room file.old at (head_bytes head_length head) }
+    ensures { Laid file.old at (head_bytes head_length head) file.new result }
 {
-    let next = words::lay(file, at, &[(width % 256) as u8, (blocks % 256) as u8]);
-    words::lay(file, next, &words::bytes64(batch))
+    let first = [(head.width % 256) as u8, (head.blocks % 256) as u8];
+    let next = words::lay(file, at, &first);
+    words::lay(file, next, &words::bytes64(head.batch))
 }
 
 // Lays out the whole file. A setup that is absent has no bytes, so its body needs no branch.
-fn lay_file(
-    width: u32,
-    blocks: u32,
-    batch: u64,
-    setup: &[u8],
-    correction: &[u8],
-    key: &[u8],
-    check: &[u8],
-    file: &mut [u8],
-)
-    requires { (length file.old ≡ length (file_of (head_with width blocks batch) (bodies_with setup.now correction.now key.now check.now))) × (length file.old < 2 ^ 32) }
-    ensures { file.new ≡ file_of (head_with width blocks batch) (bodies_with setup.now correction.now key.now check.now) }
+fn lay_file(head: FileHead, bodies: Bodies<'_>, file: &mut [u8])
+    requires { (length file.old ≡ length (file_of head (lent bodies))) × (length file.old < 2 ^ 32) }
+    ensures { file.new ≡ file_of head (lent bodies.entry) }
 {
     let lengths = [
-        setup.len(),
+        bodies.setup.len(),
         sizes::HEAD_LENGTH,
-        correction.len(),
-        key.len(),
-        check.len(),
+        bodies.correction.len(),
+        bodies.key.len(),
+        bodies.check.len(),
     ];
-    let mut at = lay_contents(file, entries_with(setup.len()), lengths);
-    at = words::lay(file, at, setup);
-    at = lay_head(file, at, width, blocks, batch);
-    at = words::lay(file, at, correction);
-    at = words::lay(file, at, key);
-    words::lay(file, at, check);
+    let mut at = lay_contents(file, entries_with(bodies.setup.len()), lengths);
+    at = words::lay(file, at, bodies.setup);
+    at = lay_head(file, at, head);
+    at = words::lay(file, at, bodies.correction);
+    at = words::lay(file, at, bodies.key);
+    words::lay(file, at, bodies.check);
 }
 
-// Writes a batch to a file. An empty setup means none.
-pub fn write(
-    width: u32,
-    blocks: u32,
-    batch: u64,
-    setup: &[u8],
-    correction: &[u8],
-    key: &[u8],
-    check: &[u8],
-    file: &mut [u8],
-) -> Answer
-    ensures { WriteFile (head_with width blocks batch) (bodies_with setup.now correction.now key.now check.now) file.old result file.new }
+// Writes a batch to a file.
+pub fn write(head: FileHead, bodies: Bodies<'_>, file: &mut [u8]) -> Result<(), Refusal>
+    ensures { WriteFile head (lent bodies.entry) file.old result file.new }
 {
-    let answer = write_answer(
-        width,
-        blocks,
-        batch,
-        setup.len(),
-        correction.len(),
-        key,
-        check.len(),
-        file.len(),
-    );
-    if answer::is_done(answer) {
-        lay_file(width, blocks, batch, setup, correction, key, check, file);
-    }
-    answer
+    write_answer(head, bodies, file.len())?;
+    lay_file(head, bodies, file);
+    Ok(())
 }
