@@ -237,10 +237,10 @@ fn siblings_of(width: u32, roots: &[u8], delta: &[u8]) -> [u8; sizes::SIBLINGS_L
 {
     let base_pads = [0u8; sizes::RECEIVER_BASE_PADS_LENGTH];
     let mut message = [0u8; sizes::SETUP_MESSAGE_LENGTH];
-    setup::receiver_setup(width, roots, &base_pads, &mut message);
+    let _ = setup::receiver_setup(width, roots, &base_pads, &mut message);
     let mut siblings = [0u8; sizes::SIBLINGS_LENGTH];
     let mine = &base_pads[0..sizes::SENDER_BASE_PADS_LENGTH];
-    setup::sender_setup(width, delta, mine, &message, &mut siblings);
+    let _ = setup::sender_setup(width, delta, mine, &message, &mut siblings);
     siblings
 }
 
