@@ -1,11 +1,13 @@
-use Rattle.std.proofs.Common.{◌≡◌, ◌+◌, sym, ◌∙◌, arith}
+use Rattle.std.proofs.Common.{◌≡◌, ◌+◌, length, sym, ◌∙◌, arith, rules}
 use Rattle.words.proofs.Progress.{begun-none, begun-set, begun_all}
 use Rattle.sha256.specs.Sha.{scheduled}
 use Rattle.sha256.proofs.Words.{scheduled-length, word_first, next-done}
 use Rattle.sha256.proofs.one.schedule.Goals as goal
 
 pub loop-t-init : goal.loop-t-init
-loop-t-init c = begun-none _ _ (sym (scheduled-length c.args.b.now 48))
+loop-t-init c =
+    let len : length c.args.w.now ≡ 64 = search rules in
+    begun-none _ _ (len ∙ sym (scheduled-length c.args.b.now 48))
 
 pub loop-t-preserved : goal.loop-t-preserved
 loop-t-preserved c =
