@@ -26,7 +26,7 @@ fn store_four(out: &mut [u8], x: [u64; 4])
 }
 
 // The folds of m columns of len bytes, 8 bytes each, by the table of a key. (Both sides of the check fold by it. What out holds by anything
-// but a key's table is left open, as in gf64::fold_four; both callers make theirs by gf64::table The lengths of a table of columns stand
+// but a key's table is left open, as in gf64::fold_four; both callers make theirs by gf64::table. The lengths of a table of columns stand
 // in three contracts: a struct of m, len and the columns would be made by each caller from a plain slice, to be taken apart here.)
 pub fn fold_columns(m: usize, len: usize, t: &[u32; 512], table: &[u8], out: &mut [u8])
     requires { (m % 4 ≡ 0) × (length table.now ≡ m * len) × (length out.old ≡ 8 * m) }
