@@ -1,4 +1,4 @@
-use Rattle.std.proofs.Common.{◌≡◌, ℕ, ◌+◌, ◌-◌, ◌*◌, ◌%◌, List, length, get_or, refl, sym, ap, ◌∙◌, subst, arith}
+use Rattle.std.proofs.Common.{◌≡◌, ℕ, ◌+◌, ◌-◌, ◌*◌, ◌%◌, List, length, get_or, refl, ap, ◌∙◌, subst, arith}
 use Rattle.words.specs.Bytes.{tabulate, part}
 use Rattle.words.specs.Xor.{xor_each, xor_part}
 use Rattle.words.proofs.Lists.{tabulate-at}
@@ -20,16 +20,6 @@ pub loop-level-init : goal.loop-level-init
 loop-level-init c =
     let u = c.requires.u_len in
     record { u-long = refl; v-long = u.3; added = λ d h. levels-none c.args.k c.args.stream _ d _ _ _ refl u.3 u.4 }
-
-pub add_level-requires-clause-u_len : goal.add_level-requires-clause-u_len
-add_level-requires-clause-u_len c =
-    let u = c.requires.u_len in
-    let w = c.loop-level in (
-      omega (arith, u.0, w.invariant.u-long),
-      omega (arith, u.1, w.invariant.u-long),
-      omega (arith, u.2, w.invariant.u-long),
-      w.invariant.v-long ∙ ap (λ (n : ℕ). c.args.k * n) (sym w.invariant.u-long),
-    )
 
 pub loop-level-preserved : goal.loop-level-preserved
 loop-level-preserved c =

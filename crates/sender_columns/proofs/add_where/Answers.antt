@@ -1,11 +1,8 @@
 use Rattle.std.proofs.Common.{◌≡◌, ℕ, List, [], ◌∷◌, ◌+◌, ◌*◌, get_or, sym, arith}
 use Rattle.words.specs.Xor.{◌⊕◌}
-use Rattle.words.proofs.Progress.{updated_none, updated-four}
+use Rattle.words.proofs.Progress.{updated-four}
 use Rattle.sender_columns.proofs.Masked.{masked, masked-at, masked-all}
 use Rattle.sender_columns.proofs.add_where.Goals as goal
-
-pub loop-q-init : goal.loop-q-init
-loop-q-init c = updated_none _ _
 
 pub loop-q-preserved : goal.loop-q-preserved
 loop-q-preserved c =

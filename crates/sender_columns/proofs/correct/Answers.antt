@@ -17,9 +17,3 @@ all_trees-requires-clause-trees_fit c =
       },
       c.requires.trees_fit.2,
     )
-
-pub returns : goal.returns
-returns c =
-    let trees = c.args.trees in
-    let delta = c.args.delta.now in
-    c.all_trees.ensures delta (c.all.ensures ∙ ap (λ (i : ℕ). sides_of i trees.k delta) (cut-length (trees.n * trees.k) 128 trees.fit.few))

@@ -1,4 +1,4 @@
-use Rattle.std.proofs.Common.{◌≡◌, ℕ, ◌+◌, ◌-◌, ◌*◌, ◌/◌, ◌%◌, ◌<◌, List, length, get_or, set, refl, sym, ap, ◌∙◌, get_or-set_same, get_or-set_other, arith}
+use Rattle.std.proofs.Common.{◌≡◌, ℕ, ◌+◌, ◌-◌, ◌*◌, ◌/◌, ◌%◌, ◌<◌, List, length, get_or, set, sym, ap, ◌∙◌, get_or-set_same, get_or-set_other, arith}
 use native.Mathlib.Decide.{ℕ_discrete}
 use Rattle.words.specs.Bytes.{bytes, word32}
 use Rattle.words.specs.Lanes.{lane_bytes}
@@ -15,9 +15,6 @@ loaded s t i l x hl hi fits made had j e lt = here (ℕ_discrete j (i + l))
         let back : i ≡ j - l = omega arith in
         ap (λ (y : ℕ). get_or (set t (i + l) x) y 0) q ∙ get_or-set_same t (i + l) x 0 fits ∙ made ∙ ap (word32 s) back
     here (no ne) = get_or-set_other t (i + l) j x 0 ne ∙ had j e (omega arith)
-
-pub loop-q-init : goal.loop-q-init
-loop-q-init c = record { lane = λ j e lt. absurd (omega arith); others = λ j ne. refl }
 
 pub loop-q-preserved : goal.loop-q-preserved
 loop-q-preserved c =

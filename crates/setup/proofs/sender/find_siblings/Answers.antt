@@ -16,9 +16,3 @@ find_by_sides-requires c =
       c.requires.2,
       c.requires.3,
     )
-
-pub returns : goal.returns
-returns c =
-    let trees = c.args.trees in
-    let delta = c.args.delta.now in
-    c.find_by_sides.ensures delta (c.all.ensures ∙ ap (λ (i : ℕ). sides_of i trees.k delta) (cut-length (trees.n * trees.k) 128 trees.fit.few))
