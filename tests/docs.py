@@ -20,11 +20,15 @@ HEADER = (ROOT / "include/softspoken.h").read_text()
 
 
 def functions():
-    """Of each crate, its functions and constants, with their modules."""
+    """Of each crate, its functions, methods and constants, with their modules and types."""
     for file in ROOT.glob("crates/*/src/*.rt"):
         crate, module = file.parts[-3], "" if file.stem in ("lib", "main") else file.stem + "::"
-        for name in re.findall(r"\b(?:fn|const) (\w+)", file.read_text()):
+        text = file.read_text()
+        for name in re.findall(r"\b(?:fn|const) (\w+)", text):
             yield f"{crate}::{module}{name}"
+        for kind, block in re.findall(r"^impl(?:<[^>]*>)? (?:.* for )?(\w+).*? \{\n(.*?)^\}", text, re.M | re.S):
+            for name in re.findall(r"\bfn (\w+)", block):
+                yield f"{crate}::{module}{kind}::{name}"
 
 
 def defined(crate, file, name):
