@@ -4,7 +4,7 @@ use mathlib.Core.List.{List, [], ◌∷◌}
 use Prim.Native.Nat.{ℕ, zero, suc, ◌+◌, ◌*◌, ◌/◌, ◌%◌, ◌<◌}
 use native.Mathlib.Omega.{arith}
 use lib.ListN.{length, get_or, length-set}
-use Rattle.words.specs.Bytes.{word32, bytes, bytes_of_words}
+use Rattle.words.specs.Bytes.{bytes, bytes_of_words}
 use Rattle.words.specs.Word32.{add32}
 use Rattle.words.proofs.Numbers.{bytes_of_words-length, bytes_of_words-at}
 use Rattle.chacha20.specs.ChaCha.{put_quad, quarter_at, column_round, diagonal_round, double_round, double_rounds, add_words, start_of, block_words, block_of}
@@ -12,19 +12,6 @@ use Rattle.chacha20.specs.ChaCha.{put_quad, quarter_at, column_round, diagonal_r
 -- two lists are equal, head by head
 pub cons : {x y : ℕ} {s t : List ℕ} → x ≡ y → s ≡ t → ◌≡◌ {A = List ℕ} (x ∷ s) (y ∷ t)
 cons p q = ap₂ (λ (a : ℕ) (r : List ℕ). a ∷ r) p q
-
--- a first state from its words
-pub started : (key nonce : List ℕ) (counter : ℕ) {k0 k1 k2 k3 k4 k5 k6 k7 n0 n1 n2 : ℕ}
-    → k0 ≡ word32 key 0 → k1 ≡ word32 key 4 → k2 ≡ word32 key 8 → k3 ≡ word32 key 12
-    → k4 ≡ word32 key 16 → k5 ≡ word32 key 20 → k6 ≡ word32 key 24 → k7 ≡ word32 key 28
-    → n0 ≡ word32 nonce 0 → n1 ≡ word32 nonce 4 → n2 ≡ word32 nonce 8
-    → ◌≡◌ {A = List ℕ}
-    (0x61707865 ∷ 0x3320646e ∷ 0x79622d32 ∷ 0x6b206574 ∷ k0 ∷ k1 ∷ k2 ∷ k3 ∷ k4 ∷ k5 ∷ k6 ∷ k7 ∷ counter ∷ n0 ∷ n1 ∷ n2 ∷ [])
-    (start_of key counter nonce)
-unfolding start_of
-started key nonce counter a b c d e f g h i j k =
-    cons refl (cons refl (cons refl (cons refl
-    (cons a (cons b (cons c (cons d (cons e (cons f (cons g (cons h (cons refl (cons i (cons j (cons k refl)))))))))))))))
 
 -- ---- sums of states
 

@@ -34,7 +34,7 @@ pub fn quarter(a: u32, b: u32, c: u32, d: u32) -> Quad
     }
 }
 
-// Adds the words of src to those of dst, modulo 2^32.
+// Adds the words of src to those of dst, modulo 2^32. Apart from `words::xor_into`, whose trait has one operation for each number.
 pub fn add_words(dst: &mut [u32], src: &[u32])
     requires { length dst.old ≡ length src.now }
     ensures { dst.new ≡ add_words dst.old src.now }

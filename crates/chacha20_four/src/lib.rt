@@ -106,21 +106,19 @@ fn double_lane(s: State) -> State
 }
 
 fn double_lanes(t: &mut [u32; 64])
-    requires { length t.old ≡ 64 }
     ensures { EachLane (λ l. double_round (lane l 16 t.old)) t.new }
 {
     for l in 0..4usize {
-        let s = get(&*t, l);
-        put(&mut *t, l, double_lane(s));
+        let s = get(t, l);
+        put(t, l, double_lane(s));
     }
 }
 
 fn rounds(t: &mut [u32; 64])
-    requires { length t.old ≡ 64 }
     ensures { EachLane (λ l. double_rounds 10 (lane l 16 t.old)) t.new }
 {
     for i in 0..10usize {
-        double_lanes(&mut *t);
+        double_lanes(t);
     }
 }
 

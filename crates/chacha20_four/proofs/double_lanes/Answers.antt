@@ -5,7 +5,7 @@ use Rattle.chacha20_four.specs.FourStates.{listed}
 use Rattle.chacha20_four.proofs.double_lanes.Goals as goal
 
 pub loop-l-init : goal.loop-l-init
-loop-l-init c = filled_none _ _ _ c.requires
+loop-l-init c = filled_none _ _ _ (omega arith)
 
 pub loop-l-preserved : goal.loop-l-preserved
 loop-l-preserved c =
