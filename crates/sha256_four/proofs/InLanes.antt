@@ -134,10 +134,6 @@ word_in l t w h =
     let place : 4 * t + l ≡ 0 + 4 * t + l = omega arith in
     ap (λ (j : ℕ). get_or w j 0) place ∙ sym (lane-at l 0 64 t w h)
 
-pub lanes-length : (i : ℕ) (w : List ℕ) → length (rounds_in_lanes i w) ≡ 32
-unfolding rounds_in_lanes
-lanes-length i w = laned-length 8 (λ l. words_of (rounds i (schedule_in l w) initial))
-
 pub lane-rounds : (i l : ℕ) (w : List ℕ) → l < 4 → work_of (lane l 8 (rounds_in_lanes i w)) ≡ rounds i (schedule_in l w) initial
 unfolding rounds_in_lanes
 lane-rounds i l w h = ap work_of (lane-laned 8 (λ l. words_of (rounds i (schedule_in l w) initial)) l h refl)

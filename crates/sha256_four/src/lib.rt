@@ -1,7 +1,7 @@
 // Four digests at once, side by side, so that the compiler works on four words with one instruction: word w of lane l stands at 4w + l.
 #![tactic(auto)]
 
-ghost use Rattle.std.specs.Prelude.{◌≡◌, ◌+◌, ◌<◌, length, get_or};
+ghost use Rattle.std.specs.Prelude.{◌≡◌, ◌+◌, ◌<◌, get_or};
 ghost use Rattle.words.specs.Bytes.{concat};
 ghost use Rattle.words.specs.Lanes.{lane, put_lane, laned};
 ghost use Rattle.sha256_four.specs.FourDigests.{digests, words_of, work_of, schedules, schedule_in, four_in_lanes, rounds_in_lanes, digest_in};
