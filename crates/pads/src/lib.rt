@@ -27,8 +27,8 @@ fn write_input(out: &mut [u8], batch: u64, row: u32, value: &[u8])
 }
 
 // The inputs of the pads of four rows, from their values.
-fn four_inputs(out: &mut [u8], batch: u64, first: u32, values: &[u8])
-    requires { (length out.old ≡ 128) × ValuesFit 4 first values.now }
+fn four_inputs(out: &mut [u8; 128], batch: u64, first: u32, values: &[u8])
+    requires { ValuesFit 4 first values.now }
     ensures { out.new ≡ of_values 4 (pad_input batch) first values.now }
 {
     for i in 0..4 {
@@ -55,8 +55,8 @@ fn four_pads(batch: u64, first: u32, values: &[u8], pads: &mut [u8])
 }
 
 // Lays the pads of four rows side by side: pad 0 before pad 1 in each row.
-fn pair_pads(pads0: &[u8], pads1: &[u8], pairs: &mut [u8])
-    requires { (length pads0.now ≡ 128) × (length pads1.now ≡ 128) × (length pairs.old ≡ 256) }
+fn pair_pads(pads0: &[u8; 128], pads1: &[u8; 128], pairs: &mut [u8])
+    requires { length pairs.old ≡ 256 }
     ensures { pairs.new ≡ concat 4 (λ i. part (i * 32) 32 pads0.now ++ part (i * 32) 32 pads1.now) }
 {
     for i in 0..4 {
@@ -77,8 +77,10 @@ trait Pads<const SIZE: usize> {
         requires { ValuesFit 4 first values.now × (length pads.old ≡ 4 * SIZE) }
         ensures { pads.new ≡ of_values 4 (made self.now) first values.now };
 
+    // Those of a block can be counted.
     ghost small: { SIZE ≤ 64 };
 
+    // Those of a row are so many bytes.
     ghost sized: { (s : Self) (j : ℕ) (value : List ℕ) → length (made s j value) ≡ SIZE };
 }
 

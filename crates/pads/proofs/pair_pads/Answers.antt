@@ -1,5 +1,5 @@
 -- One more pair.
-use Rattle.std.proofs.Common.{◌≡◌, ℕ, ◌+◌, ◌-◌, ◌*◌, ◌++◌, refl, ap₂, arith}
+use Rattle.std.proofs.Common.{◌≡◌, ℕ, ◌+◌, ◌-◌, ◌*◌, ◌++◌, refl, ap₂, arith, rules}
 use Rattle.words.specs.Bytes.{part}
 use Rattle.words.proofs.Layouts.{laid_none, laid-all}
 use Rattle.pads.proofs.Groups.{inside}
@@ -8,7 +8,7 @@ use Rattle.pads.proofs.pair_pads.Invariants.{pair}
 use Rattle.pads.proofs.pair_pads.Goals as goal
 
 pub loop-i-init : goal.loop-i-init
-loop-i-init c = laid_none 4 64 _ _ c.requires.2
+loop-i-init c = laid_none 4 64 _ _ c.requires
 
 pub loop-i-preserved : goal.loop-i-preserved
 loop-i-preserved c =
@@ -16,8 +16,8 @@ loop-i-preserved c =
     let w = c.loop-i in
     let i = w.i in
     let below = c.loop-i-test.true in
-    let long0 = (inside 4 32 i a.pads0.now below c.requires.0).1 in
-    let long1 = (inside 4 32 i a.pads1.now below c.requires.1).1 in
+    let long0 = (inside 4 32 i a.pads0.now below (search rules)).1 in
+    let long1 = (inside 4 32 i a.pads1.now below (search rules)).1 in
     let size : 32 ≡ i * 32 + 32 - i * 32 = omega arith in
     laid-pair 4 64 (pair a.pads0.now a.pads1.now) i (i * 64) (i * 64 + 32) w.pairs _ _ _ _
     refl (omega (arith, long0)) (omega (arith, long1)) c.copy_part.ensures c.copy_part-in-loop-i.ensures
