@@ -3,6 +3,7 @@
 -- and the lent parameters at exit e, each taken in the order of the step's parameters; the second is the theorem that the step's own code
 -- meets that contract. Assumes nothing.
 use mathlib.Core.Path.{◌≡◌, refl}
+use lib.ListN.{length}
 use seplogic.Ra.Ura.{Ura}
 use base.Logic.{SProp, emp}
 use prog.Memory.{Memory}
@@ -15,7 +16,7 @@ use denote.Triple.Clauses.{Ended, Clauses, AtExit}
 use Rattle.answer.specs.Answer.{Numbered}
 use Rattle.setup.specs.Setup.{ReceiverSetup, SenderSetup}
 use Rattle.session.specs.Steps.{OpenSession, ReceiverStart, SenderCorrect, ReceiverAnswer, SenderVerify}
-use Rattle.batchfile.specs.File.{ReadFile}
+use Rattle.batchfile.specs.File.{ReadFile, answer_given, head_given, places_given}
 use Rattle.batchfile.specs.Laid.{head_with, bodies_with}
 use Rattle.filereader.specs.Reading.{reader_over, HandsOut}
 use Rattle.filewriter.specs.Write.{WriteFile}
@@ -149,10 +150,10 @@ module _ {M : Type 1} {𝓤 : Ura M} (𝓛 : Logic 𝓤) (mem : Memory → SProp
   pub sender-verify-promises : Promises sender-verify.ended (sender-verify.clauses 𝓛 mem run) (λ κs a x e. SenderVerify a.0 a.1.0 a.1.1.0.now a.1.1.1.0.now a.1.1.1.1.0.now a.1.1.1.1.1.0.now x.answer x.«record» e.1.1.1.1.1.0.now)
   sender-verify-promises = record { no_ghost = λ κs a. refl; no-requires = λ κs a g. refl; ensured = λ κs a g x e. refl }
 
-  pub find-promises : Promises find.ended (find.clauses 𝓛 mem run) (λ κs a x e. ReadFile a.0.now x.answer x.head x.places)
+  pub find-promises : Promises find.ended (find.clauses 𝓛 mem run) (λ κs a x e. ReadFile a.0.now (answer_given x) (head_given x) (places_given (length a.0.now) x))
   find-promises = record { no_ghost = λ κs a. refl; no-requires = λ κs a g. refl; ensured = λ κs a g x e. refl }
 
-  pub write-promises : Promises write.ended (write.clauses 𝓛 mem run) (λ κs a x e. WriteFile (head_with a.0 a.1.0 a.1.1.0) (bodies_with a.1.1.1.0.now a.1.1.1.1.0.now a.1.1.1.1.1.0.now a.1.1.1.1.1.1.0.now) a.1.1.1.1.1.1.1.0.now x e.1.1.1.1.1.1.1.0.now)
+  pub write-promises : Promises write.ended (write.clauses 𝓛 mem run) (λ κs a x e. WriteFile a.0 (bodies_with a.1.0.setup.now a.1.0.correction.now a.1.0.key.now a.1.0.check.now) a.1.1.0.now x e.1.1.0.now)
   write-promises = record { no_ghost = λ κs a. refl; no-requires = λ κs a g. refl; ensured = λ κs a g x e. refl }
 
   -- ---- the reader that hands out a file's bodies
