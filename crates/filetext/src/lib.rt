@@ -17,10 +17,10 @@ fn lay_decimal(out: &mut [u8], at: usize, x: u64) -> usize
     ensures { Laid out.old at (decimal x) out.new result }
 {
     if x < 10 {
-        return words::lay(out, at, &[48 + x as u8]);
+        return words::lay(out, at, &[b'0' + x as u8]);
     }
     let next = lay_decimal(out, at, x / 10);
-    words::lay(out, next, &[48 + (x % 10) as u8])
+    words::lay(out, next, &[b'0' + (x % 10) as u8])
 }
 
 // A number after its name.
