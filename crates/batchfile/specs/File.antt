@@ -61,6 +61,7 @@ contents_right file = entries_stand file && bodies_stand file
 
 -- ---- the bodies: kind 1 is the setup, 2 the head, 3 the correction, 4 the key, 5 the check
 
+-- the number of a kind
 abbrev pub kind_number : Kind → ℕ
 kind_number Setup = 1
 kind_number Head = 2

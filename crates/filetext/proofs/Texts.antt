@@ -1,5 +1,5 @@
 -- The text by cases, and that 512 bytes hold it. Assumes nothing.
-use mathlib.Core.Path.{◌≡◌, refl, sym, ap, ◌∙◌}
+use mathlib.Core.Path.{◌≡◌, refl, ap, ◌∙◌}
 use mathlib.Core.Bool.{Bool, true, false, cond}
 use mathlib.Core.List.{List, [], ◌++◌}
 use Prim.Native.Nat.{ℕ, zero, suc, ◌+◌, ◌-◌, ◌*◌, ◌^◌, ◌≤◌, ◌<◌}
@@ -7,8 +7,7 @@ use Prim.Native.String.{String}
 use native.Mathlib.Nat.{suc-mul}
 use native.Mathlib.Omega.{arith}
 use native.Mathlib.Decide.{dec_lt}
-use lib.ListN.{length, take, drop, replicate, length-append, length-take, length-drop}
-use lib.Seq.{length-take-le}
+use lib.ListN.{length, drop, replicate, length-append, length-take, length-drop}
 use borrow.Author.Tests.{lt-ltb, le-ltb}
 use Rattle.words.specs.Bytes.{part, put, concat}
 use Rattle.sha256.specs.Sha.{digest_of}
@@ -21,8 +20,7 @@ use Rattle.batchfile.specs.declared.FileHead.{FileHead}
 use Rattle.batchfile.specs.File.{count_of, length_at, place_at, present, entry_of, body_of, head_of, read_answer, Taken, longest_file}
 use Rattle.batchfile.proofs.Reading.{done-taken}
 use Rattle.batchfile.proofs.Taken.{taken-tells, longest}
-use Rattle.filetext.specs.Text.{codes, decimal, hex_of, named, head_line, digest_line, body_line, refused_line, line_at, body_lines, text_of, Holds}
-use Rattle.filetext.specs.declared.Text.{Text}
+use Rattle.filetext.specs.Text.{codes, decimal, hex_of, named, head_line, digest_line, body_line, refused_line, line_at, body_lines, text_of}
 use Rattle.filetext.proofs.Digits.{decimal-length, decimal-most, hex-length}
 
 -- ---- by cases
@@ -148,14 +146,6 @@ text-fits input = here (dec_lt longest_file (length input)) (is_done (read_answe
           bodies-length input (omega arith),
         ))
     here (no h) false e = rw (text-refused input (omega arith) e) (omega (arith, refused-length (number (read_answer input))))
-
--- ---- what the code's text says of itself
-
-pub holds-within : (r : Text) (l : List ℕ) → Holds r l → r.len ≤ length r.bytes
-holds-within r l h = omega (arith, h.long, ap length h.bytes, length-append l (replicate (512 - length l) 0))
-
-pub holds-counted : (r : Text) (l : List ℕ) → Holds r l → r.len ≡ length (take r.len r.bytes)
-holds-counted r l h = sym (length-take-le r.len r.bytes (holds-within r l h))
 
 -- ---- over zeros
 

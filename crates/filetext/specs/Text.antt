@@ -1,5 +1,5 @@
 -- The text that the program "batchprint" prints of a batch on file. Paper 02, note 1. Assumes nothing.
-use Rattle.std.specs.Prelude.{◌≡◌, cond, [], ◌∷◌, ◌++◌, ℕ, zero, suc, ◌+◌, ◌-◌, ◌/◌, ◌%◌, ltb, length, get_or, replicate}
+use Rattle.std.specs.Prelude.{cond, [], ◌∷◌, ◌++◌, ℕ, zero, suc, ◌+◌, ◌/◌, ◌%◌, ltb, length, get_or}
 use Prim.Native.Char.{code}
 use Prim.Native.String.{String, [] as []ˢ, ◌∷◌ as ◌∷ˢ◌}
 use Rattle.words.specs.Bytes.{Range, concat}
@@ -8,7 +8,6 @@ use Rattle.answer.specs.Answer.{number, when_done}
 use Rattle.batchfile.specs.declared.FileHead.{FileHead}
 use Rattle.batchfile.specs.File.{body_of, head_of, read_answer, longest_file}
 use Rattle.foldtext.specs.Line.{hex_digits}
-use Rattle.filetext.specs.declared.Text.{Text}
 
 -- ---- characters, numbers and bytes
 
@@ -67,8 +66,3 @@ unfoldable pub text_of : (input : Range) → Range
 text_of input =
     cond (ltb longest_file (length input)) (codes "too long\n")
     (when_done (read_answer input) (head_line (head_of input) ++ body_lines input) (refused_line (number (read_answer input))))
-
--- the code's text: these bytes, and zeros up to its 512
-pub record Holds (r : Text) (l : Range) : Type 0 where
-  pub long : r.len ≡ length l
-  pub bytes : r.bytes ≡ l ++ replicate (512 - length l) 0

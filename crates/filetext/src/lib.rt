@@ -4,35 +4,23 @@
 ghost use Rattle.std.specs.Prelude.{◌++◌};
 ghost use Rattle.words.specs.Pieces.{Room, Laid};
 ghost use Rattle.batchfile.specs.File.{Taken};
-ghost use Rattle.foldtext.specs.Line.{hex_digits};
-ghost use Rattle.filetext.specs.Text.{decimal, hex_of, head_line, digest_line, body_line, refused_line, body_lines, text_of, Holds};
+ghost use Rattle.foldtext.specs.Line.{hex_digits, Holds};
+ghost use Rattle.filetext.specs.Text.{decimal, hex_of, head_line, digest_line, body_line, refused_line, body_lines, text_of};
 
 use batchfile::FileHead;
+use foldtext::Text;
 
-// The first len of the bytes.
-#[derive(Clone, Copy)]
-pub struct Text {
-    pub len: usize,
-    pub bytes: [u8; 512],
-}
-
-// Lays a number in decimal over out from a place on, its digits from the last to the first and then all of them, and returns the place
-// after it. So do the functions that follow, each with a piece of its own.
+// Lays a number in decimal over out from a place on, its last digit after the others, and returns the place after it. So do the functions
+// that follow, each with a piece of its own.
 fn lay_decimal(out: &mut [u8], at: usize, x: u64) -> usize
     requires { Room out.old at (decimal x) }
     ensures { Laid out.old at (decimal x) out.new result }
 {
-    let mut digits = [0u8; 20];
-    let mut i: usize = 20;
-    let mut rest = x;
-    while 10 <= rest {
-        i -= 1;
-        digits[i] = 48 + (rest % 10) as u8;
-        rest = rest / 10;
+    if x < 10 {
+        return words::lay(out, at, &[b'0' + x as u8]);
     }
-    i -= 1;
-    digits[i] = 48 + rest as u8;
-    words::lay(out, at, &digits[i..])
+    let next = lay_decimal(out, at, x / 10);
+    words::lay(out, next, &[b'0' + (x % 10) as u8])
 }
 
 // A number after its name.
@@ -60,10 +48,8 @@ fn lay_hex(out: &mut [u8], at: usize, s: &[u8]) -> usize
     ensures { Laid out.old at (hex_of s.now) out.new result }
 {
     let mut next = at;
-    let mut i = 0;
-    while i < s.len() {
-        next = lay_byte(out, next, s[i]);
-        i += 1;
+    for b in s {
+        next = lay_byte(out, next, *b);
     }
     next
 }
@@ -114,10 +100,8 @@ fn lay_bodies(out: &mut [u8], at: usize, file: &[u8]) -> usize
     ensures { Laid out.old at (body_lines file.now) out.new result }
 {
     let mut next = at;
-    let mut i: u32 = 0;
-    while i < 5 {
-        next = lay_body(out, next, i + 1, filereader::body_of(file, i + 1));
-        i += 1;
+    for kind in 1..6 {
+        next = lay_body(out, next, kind, filereader::body_of(file, kind));
     }
     next
 }
@@ -130,17 +114,17 @@ fn lay_text(out: &mut [u8], input: &[u8]) -> usize
     if batchfile::LONGEST_FILE < input.len() {
         return words::lay(out, 0, b"too long\n");
     }
-    let found = batchfile::find(input);
-    let answer = found.answer;
-    if answer::is_done(answer) {
-        let next = lay_head(out, 0, found.head);
-        return lay_bodies(out, next, input);
+    match batchfile::find(input) {
+        Ok(found) => {
+            let next = lay_head(out, 0, found.head);
+            lay_bodies(out, next, input)
+        }
+        Err(refusal) => lay_refused(out, 0, answer::number_of(Err(refusal))),
     }
-    lay_refused(out, 0, answer::number_of(answer))
 }
 
 // The text of what was read, of any length.
-pub fn text_of(input: &[u8]) -> Text
+pub fn text_of(input: &[u8]) -> Text<512>
     ensures { Holds result (text_of input.now) }
 {
     let mut bytes = [0u8; 512];

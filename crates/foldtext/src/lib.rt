@@ -20,14 +20,18 @@ pub fn digit(d: u64) -> u8
     requires { d < 16 }
     ensures { result ≡ hex_digit d }
 {
-    if d < 10 { 48 + d as u8 } else { 87 + d as u8 }
+    if d < 10 {
+        b'0' + d as u8
+    } else {
+        b'a' - 10 + d as u8
+    }
 }
 
 // The digits of x from the last to the first, before a newline.
 fn fold_line(x: u64) -> [u8; 17]
     ensures { result ≡ fold_line x }
 {
-    let mut out = [10u8; 17];
+    let mut out = [b'\n'; 17];
     let mut rest = x;
     for i in (0..16).rev() {
         out[i] = digit(rest % 16);
