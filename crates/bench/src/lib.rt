@@ -69,13 +69,9 @@ pub extern "C" fn bench_fold_table(key: u64, table: &mut [u32; 512])
 pub extern "C" fn bench_fold_four(table: &[u32; 512], s: &[u8], len: usize, out: &mut [u64; 4])
     ensures { (g : ℕ) → table.now ≡ key_table g → out.new ≡ folds_where g len s.now out.old }
 {
-    if len != s.len() / 4 {
-        return;
+    if len == s.len() / 4 && s.len() % 4 == 0 {
+        *out = gf64::fold_four(table, len, s);
     }
-    if s.len() % 4 != 0 {
-        return;
-    }
-    *out = gf64::fold_four(table, len, s);
 }
 
 // The 64 rows of a block of a table of columns of len bytes, or rows as they were where a length does not fit.
@@ -84,17 +80,7 @@ pub extern "C" fn bench_block_rows(len: usize, table: &[u8], block: u32, rows: &
     ensures { rows.new ≡ rows_where len block table.now rows.old }
 {
     let at = 8 * (block as usize);
-    if 65536 < len {
-        return;
+    if len <= 65536 && table.len() == 128 * len && at + 8 <= len && rows.len() == 1024 {
+        rows::block_rows(len, table, at, rows);
     }
-    if table.len() != 128 * len {
-        return;
-    }
-    if len < at + 8 {
-        return;
-    }
-    if rows.len() != 1024 {
-        return;
-    }
-    rows::block_rows(len, table, at, rows);
 }

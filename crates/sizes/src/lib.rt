@@ -43,19 +43,11 @@ pub fn constants() -> [usize; 10]
 }
 
 // Whether a width is allowed.
+#[tactic(auto, unfolding(crate::specs::Sizes::width_allowed))]
 pub fn width_allowed(width: u32) -> bool
     ensures { result ≡ width_allowed width }
 {
-    if width == 1 {
-        return true;
-    }
-    if width == 2 {
-        return true;
-    }
-    if width == 4 {
-        return true;
-    }
-    width == 8
+    matches!(width, 1 | 2 | 4 | 8)
 }
 
 // The trees of a width: none where the width is 0.
@@ -63,9 +55,10 @@ pub fn trees_of(width: u32) -> usize
     ensures { result ≡ trees_of width }
 {
     if width == 0 {
-        return 0;
+        0
+    } else {
+        COLUMNS / width as usize
     }
-    COLUMNS / (width as usize)
 }
 
 pub fn roots_length(width: u32) -> usize
@@ -90,11 +83,7 @@ pub fn table_length(blocks: u32) -> usize
 pub fn correction_length(width: u32, blocks: u32) -> usize
     ensures { result ≡ correction_length width blocks }
 {
-    let n = trees_of(width);
-    if n == 0 {
-        return 0;
-    }
-    (n - 1) * column_length(blocks)
+    trees_of(width).saturating_sub(1) * column_length(blocks)
 }
 
 pub fn receiver_pads_length(blocks: u32) -> usize
