@@ -9,6 +9,7 @@ ghost use Rattle.sizes.specs.Sizes.{siblings_length};
 
 use cases::Sessions;
 use cases::input::Records;
+use rules::Record;
 use std::io;
 use std::io::Write;
 
@@ -25,10 +26,10 @@ fn length_at(p: &[u8], at: usize) -> usize
 }
 
 // The record of a session at a place: the last batch number has 8 bytes; width before it, and blocks and stage after it, have 4 each.
-fn record_at(p: &[u8], at: usize) -> rules::Record
+fn record_at(p: &[u8], at: usize) -> Record
     requires { at + 20 ≤ length p.now }
 {
-    rules::Record {
+    Record {
         width: words::load32(p, at),
         last: words::load64(p, at + 4),
         blocks: words::load32(p, at + 12),
@@ -192,41 +193,100 @@ fn alter(a: &[u8], range: u8, s: &mut [u8])
     }
 }
 
-// Makes all alterations of a range.
-fn damage(alterations: &[u8], range: u8, s: &mut [u8]) {
-    for alteration in alterations.chunks_exact(8) {
-        alter(alteration, range, s);
+// What a whole batch is played by: a batch number, blocks, a key, a seed, delta, the lengths of roots, choices, table, correction and both
+// sides' pads, and the alterations: of the correction (0) and the message (1) as the sender gets them, and of W (2), delta (3) and the key (4)
+// at the verify.
+#[derive(Clone, Copy)]
+struct Plan<'a> {
+    batch: u64,
+    blocks: u32,
+    key: u64,
+    seed: u32,
+    payload: &'a [u8],
+    ghost whole: { 64 ≤ length payload.now },
+}
+
+impl<'a> Plan<'a> {
+    // None where the payload is too short.
+    fn read(payload: &'a [u8]) -> Option<Plan<'a>> {
+        if payload.len() < 64 {
+            return None;
+        }
+        Some(Plan {
+            batch: words::load64(payload, 0),
+            blocks: words::load32(payload, 8),
+            key: words::load64(payload, 12),
+            seed: words::load32(payload, 20),
+            payload,
+        })
+    }
+
+    // The length that stands at a place; no more than a derived range has.
+    fn length_at(&self, at: usize) -> usize
+        requires { at + 4 ≤ 64 }
+        ensures { result ≤ 61472 }
+    {
+        length_at(self.payload, at)
+    }
+
+    // Makes all alterations of a range.
+    fn damage(&self, range: u8, s: &mut [u8]) {
+        for alteration in self.payload[64..].chunks_exact(8) {
+            alter(alteration, range, s);
+        }
+    }
+
+    // Delta as it is planned. The `ensures` of this and of the next give its length.
+    fn delta(&self) -> [u8; 16]
+        ensures { 16 ≡ length result }
+    {
+        let mut delta = [0u8; 16];
+        words::copy_part(&mut delta, 0, &self.payload[24..40]);
+        delta
+    }
+
+    // Delta and the key at the verify.
+    fn verify_delta(&self) -> [u8; 16]
+        ensures { 16 ≡ length result }
+    {
+        let mut delta = self.delta();
+        self.damage(3, &mut delta);
+        delta
+    }
+
+    fn verify_key(&self) -> u64 {
+        let mut key = words::bytes64(self.key);
+        self.damage(4, &mut key);
+        words::load64(&key, 0)
     }
 }
 
 // The receiver's start and answer in a whole batch. The record goes from one to the other.
 fn batch_receiver(
     to: &mut impl Write,
-    record: rules::Record,
-    p: &[u8],
+    record: Record,
+    plan: Plan<'_>,
     roots: &[u8],
     correction: &mut [u8],
     message: &mut [u8],
-) -> io::Result<rules::Record>
-    requires { 64 ≤ length p.now }
-{
-    let key = words::load64(p, 12);
-    let seed = words::load32(p, 20);
-    let choices_len = length_at(p, 44);
-    let table_len = length_at(p, 48);
-    let pads_len = length_at(p, 56);
-    let mut all_choices = cases::derived(seed, 1);
-    let mut all_table = cases::derived(seed, 2);
-    let mut all_pads = cases::derived(seed, 6);
-    let choices = &mut all_choices[0..choices_len];
-    let table = &mut all_table[0..table_len];
-    let pads = &mut all_pads[0..pads_len];
-    let batch = words::load64(p, 0);
-    let blocks = words::load32(p, 8);
-    let start = session::receiver_start(record, roots, batch, blocks, choices, table, correction);
+) -> io::Result<Record> {
+    let mut all_choices = cases::derived(plan.seed, 1);
+    let mut all_table = cases::derived(plan.seed, 2);
+    let mut all_pads = cases::derived(plan.seed, 6);
+    let choices = &mut all_choices[0..plan.length_at(44)];
+    let table = &mut all_table[0..plan.length_at(48)];
+    let pads = &mut all_pads[0..plan.length_at(56)];
+    let start = session::receiver_start(
+        record,
+        roots,
+        plan.batch,
+        plan.blocks,
+        choices,
+        table,
+        correction,
+    );
     print_step(to, start, roots, choices, table, correction)?;
-    let open = start.record;
-    let end = session::receiver_answer(open, key, choices, table, message, pads);
+    let end = session::receiver_answer(start.record, plan.key, choices, table, message, pads);
     print_step(to, end, choices, table, message, pads)?;
     Ok(end.record)
 }
@@ -247,60 +307,40 @@ fn siblings_of(width: u32, roots: &[u8], delta: &[u8]) -> [u8; sizes::SIBLINGS_L
 // The sender's correction in a whole batch, after the setup, on a correction that may be damaged.
 fn batch_correct(
     to: &mut impl Write,
-    record: rules::Record,
-    p: &[u8],
+    record: Record,
+    plan: Plan<'_>,
     roots: &[u8],
     correction: &mut [u8],
     table: &mut [u8],
-) -> io::Result<rules::Record>
-    requires { 64 ≤ length p.now }
-{
-    let batch = words::load64(p, 0);
-    let blocks = words::load32(p, 8);
-    damage(&p[64..], 0, correction);
-    let delta = &p[24..40];
-    let siblings = siblings_of(record.width, roots, delta);
-    let step = session::sender_correct(record, &siblings, delta, batch, blocks, correction, table);
-    print_step(to, step, &siblings, delta, correction, table)?;
+) -> io::Result<Record> {
+    plan.damage(0, correction);
+    let delta = plan.delta();
+    let siblings = siblings_of(record.width, roots, &delta);
+    let step = session::sender_correct(
+        record,
+        &siblings,
+        &delta,
+        plan.batch,
+        plan.blocks,
+        correction,
+        table,
+    );
+    print_step(to, step, &siblings, &delta, correction, table)?;
     Ok(step.record)
-}
-
-// Delta and the key at the verify. The `ensures` gives delta's length.
-fn verify_delta(p: &[u8]) -> [u8; 16]
-    requires { 64 ≤ length p.now }
-    ensures { 16 ≡ length result }
-{
-    let mut delta = [0u8; 16];
-    words::copy_part(&mut delta, 0, &p[24..40]);
-    damage(&p[64..], 3, &mut delta);
-    delta
-}
-
-fn verify_key(p: &[u8]) -> u64
-    requires { 64 ≤ length p.now }
-{
-    let mut key = [0u8; 8];
-    words::copy_part(&mut key, 0, &p[12..20]);
-    damage(&p[64..], 4, &mut key);
-    words::load64(&key, 0)
 }
 
 // The sender's verify in a whole batch.
 fn batch_verify(
     to: &mut impl Write,
-    record: rules::Record,
-    p: &[u8],
+    record: Record,
+    plan: Plan<'_>,
     table: &[u8],
     message: &[u8],
-) -> io::Result<rules::Record>
-    requires { 64 ≤ length p.now }
-{
-    let delta = verify_delta(p);
-    let key = verify_key(p);
-    let pads_len = length_at(p, 60);
-    let mut all_pads = cases::derived(words::load32(p, 20), 7);
-    let pads = &mut all_pads[0..pads_len];
-    let step = session::sender_verify(record, key, table, &delta, message, pads);
+) -> io::Result<Record> {
+    let delta = plan.verify_delta();
+    let mut all_pads = cases::derived(plan.seed, 7);
+    let pads = &mut all_pads[0..plan.length_at(60)];
+    let step = session::sender_verify(record, plan.verify_key(), table, &delta, message, pads);
     print_step(to, step, table, &delta, message, pads)?;
     Ok(step.record)
 }
@@ -309,41 +349,33 @@ fn batch_verify(
 // between them.
 fn batch_sender(
     to: &mut impl Write,
-    record: rules::Record,
-    p: &[u8],
+    record: Record,
+    plan: Plan<'_>,
     roots: &[u8],
     correction: &mut [u8],
     message: &mut [u8],
-) -> io::Result<rules::Record>
-    requires { 64 ≤ length p.now }
-{
-    let table_len = length_at(p, 48);
-    let mut all_table = cases::derived(words::load32(p, 20), 4);
-    let table = &mut all_table[0..table_len];
-    let open = batch_correct(to, record, p, roots, correction, table)?;
-    damage(&p[64..], 1, message);
-    damage(&p[64..], 2, table);
-    batch_verify(to, open, p, table, message)
+) -> io::Result<Record> {
+    let mut all_table = cases::derived(plan.seed, 4);
+    let table = &mut all_table[0..plan.length_at(48)];
+    let open = batch_correct(to, record, plan, roots, correction, table)?;
+    plan.damage(1, message);
+    plan.damage(2, table);
+    batch_verify(to, open, plan, table, message)
 }
 
-// A whole batch of the two sessions: a batch number, blocks, a key, a seed, delta, the lengths of roots, choices, table, correction and
-// both sides' pads, and the alterations: of the correction (0) and the message (1) as the sender gets them, and of W (2), delta (3) and the
-// key (4) at the verify. The four steps, a line each.
+// A whole batch of the two sessions: the four steps, a line each.
 fn batch(to: &mut impl Write, both: Sessions, p: &[u8]) -> io::Result<Sessions> {
-    if p.len() < 64 {
+    let Some(plan) = Plan::read(p) else {
         return Ok(both);
-    }
-    let seed = words::load32(p, 20);
-    let roots_len = length_at(p, 40);
-    let correction_len = length_at(p, 52);
-    let all_roots = cases::derived(seed, 0);
-    let mut all_correction = cases::derived(seed, 3);
-    let mut all_message = cases::derived(seed, 5);
-    let roots = &all_roots[0..roots_len];
-    let correction = &mut all_correction[0..correction_len];
+    };
+    let all_roots = cases::derived(plan.seed, 0);
+    let mut all_correction = cases::derived(plan.seed, 3);
+    let mut all_message = cases::derived(plan.seed, 5);
+    let roots = &all_roots[0..plan.length_at(40)];
+    let correction = &mut all_correction[0..plan.length_at(52)];
     let message = &mut all_message[0..sizes::CHECK_MESSAGE_LENGTH];
-    let receiver = batch_receiver(to, both.receiver, p, roots, correction, message)?;
-    let sender = batch_sender(to, both.sender, p, roots, correction, message)?;
+    let receiver = batch_receiver(to, both.receiver, plan, roots, correction, message)?;
+    let sender = batch_sender(to, both.sender, plan, roots, correction, message)?;
     Ok(Sessions { receiver, sender })
 }
 
@@ -392,7 +424,7 @@ fn main(rt: HostRuntime) -> io::Result<()> {
     let n = cases::read_full(&mut rt.stdin(), &mut buffer)?;
     let mut to = rt.stdout();
     // two sessions whose records hold nothing
-    let nothing = rules::Record::new(0);
+    let nothing = Record::new(0);
     let mut both = Sessions {
         receiver: nothing,
         sender: nothing,

@@ -13,13 +13,15 @@ use rules::Record;
 use std::io;
 use std::io::Write;
 
-// A batch to be played: its number, blocks and key, and what is added to a byte of tree 1's correction on its way to the sender.
+// A batch to be played: its number, blocks and key, and what is added to a byte of tree 1's correction on its way to the sender. `few` bounds
+// the lengths of its ranges.
 #[derive(Clone, Copy)]
 struct Batch {
     number: u64,
     blocks: u32,
     key: u64,
     flip: u8,
+    ghost few: { blocks ≤ 15 },
 }
 
 // A batch that is open on both sides: what the receiver's start and the sender's correction gave.
@@ -38,11 +40,7 @@ fn say_digest(to: &mut impl Write, text: &str, s: &[u8]) -> io::Result<()> {
 
 // The transfers of a batch, which count where the step that ends it was done.
 fn transfers(end: Result<(), Refusal>, blocks: u32) -> u64 {
-    if end.is_ok() {
-        64 * (blocks as u64)
-    } else {
-        0
-    }
+    if end.is_ok() { 64 * (blocks as u64) } else { 0 }
 }
 
 // One side's account of a batch, from the step that opened it and the one that ended it.
@@ -177,7 +175,7 @@ fn siblings_of(
     Ok(siblings)
 }
 
-// The receiver's start and the sender's correction. The `requires` bounds the correction's length.
+// The receiver's start and the sender's correction.
 fn open_batch(
     both: Sessions,
     b: Batch,
@@ -187,9 +185,7 @@ fn open_batch(
     choices: &mut [u8],
     v: &mut [u8],
     w: &mut [u8],
-) -> Opened
-    requires { b.blocks ≤ 15 }
-{
+) -> Opened {
     let len = sizes::column_length(b.blocks);
     let mut all_correction = [0u8; 1920];
     let correction = &mut all_correction[0..15 * len];
@@ -229,7 +225,7 @@ fn end_batch(
     Ok(Sessions { receiver, sender })
 }
 
-// The four steps of a batch, in their order. The `requires` bounds the tables' lengths.
+// The four steps of a batch, in their order.
 fn steps(
     to: &mut impl Write,
     both: Sessions,
@@ -240,9 +236,7 @@ fn steps(
     choices: &mut [u8],
     mine: &mut [u8],
     theirs: &mut [u8],
-) -> io::Result<Sessions>
-    requires { b.blocks ≤ 15 }
-{
+) -> io::Result<Sessions> {
     let size = sizes::table_length(b.blocks);
     let mut all_v = [0u8; 16384];
     let mut all_w = [0u8; 16384];
@@ -264,7 +258,7 @@ fn steps_and_pads(
     mine: &mut [u8],
     theirs: &mut [u8],
 ) -> io::Result<Sessions>
-    requires { (b.blocks ≤ 15) × (8 * b.blocks ≤ length choices.old) × (receiver_pads_length b.blocks ≡ length mine.old) × (sender_pads_length b.blocks ≡ length theirs.old) }
+    requires { (8 * b.blocks ≤ length choices.old) × (receiver_pads_length b.blocks ≡ length mine.old) × (sender_pads_length b.blocks ≡ length theirs.old) }
 {
     let bytes = 8 * (b.blocks as usize);
     let after = steps(to, both, b, roots, delta, siblings, choices, mine, theirs)?;
@@ -280,9 +274,7 @@ fn play(
     roots: &[u8],
     delta: &[u8],
     siblings: &[u8],
-) -> io::Result<Sessions>
-    requires { b.blocks ≤ 15 }
-{
+) -> io::Result<Sessions> {
     writeln!(to, "batch {}", b.number)?;
     let mut all_choices = [0u8; 128];
     let mut all_mine = [0u8; 30720];
@@ -295,7 +287,7 @@ fn play(
 
 // A batch whose key a seed and its number give.
 fn planned(number: u32, blocks: u32, flip: u8) -> Batch
-    ensures { result.blocks ≡ blocks }
+    requires { blocks ≤ 15 }
 {
     let key = words::load64(&cases::derived(2, number), 0);
     Batch {
