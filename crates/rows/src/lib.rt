@@ -27,7 +27,7 @@ const BYTES: [u64; 3] = [
     0x00ff_00ff_00ff_00ff,
 ];
 
-// Two words that changed bits.
+// Two words that changed bits. A tuple would be no plainer: the names say which word is which.
 #[derive(Clone, Copy)]
 struct Pair {
     first: u64,
