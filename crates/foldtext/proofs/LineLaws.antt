@@ -32,9 +32,9 @@ pub fold_line-length : (x : ℕ) → length (fold_line x) ≡ 17
 fold_line-length x = length-append (hex_digits 16 x) (10 ∷ []) ∙ omega (arith, hex_digits-length 16 x)
 
 -- an input has a key
-pub input-long : (n : ℕ) → is_input n ≡ true → 16 ≤ n
+pub input_long : (n : ℕ) → is_input n ≡ true → 16 ≤ n
 unfolding is_input
-input-long n e = here (leb 16 n) refl e
+input_long n e = here (leb 16 n) refl e
   where
     here : (b : Bool) → leb 16 n ≡ b → cond b (cond (leb n 136) (eqb (n % 8) 0) false) false ≡ true → 16 ≤ n
     here true q r = leb-true 16 n q

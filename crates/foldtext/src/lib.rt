@@ -50,6 +50,7 @@ fn refused() -> Text<17>
 }
 
 // The line for an input of any length.
+#[tactic(auto, using(crate::proofs::LineLaws::input_long))]
 pub fn line(s: &[u8]) -> Text<17>
     ensures { Holds result (line_of s.now) }
 {

@@ -2,24 +2,12 @@ use Rattle.std.proofs.Common.{◌≡◌, true, ◌-◌, drop, length, sym, ap, a
 use Rattle.std.proofs.Math.Seq.{take_all}
 use Rattle.gf64.specs.Field.{fold_bytes}
 use Rattle.foldtext.specs.Line.{Holds, is_input, fold_line, line_of}
-use Rattle.foldtext.proofs.LineLaws.{whole-line, line-input, line_other, input-long, fold_line-length}
+use Rattle.foldtext.proofs.LineLaws.{whole-line, line-input, line_other, fold_line-length}
 use Rattle.foldtext.proofs.line.Goals as goal
-
-held : (c : goal.Else-not-is_input) → is_input (length c.args.s.now) ≡ true
-held c = sym c.is_input.ensures ∙ c.if-not-is_input.false
 
 pub returns-then-not-is_input : goal.returns-then-not-is_input
 returns-then-not-is_input c =
     subst (Holds c.refused.result) (sym (line_other _ (sym c.is_input.ensures ∙ c.if-not-is_input.true))) c.refused.ensures
-
-pub load64-key-requires : goal.load64-key-requires
-load64-key-requires c = omega (arith, input-long _ (held c))
-
-pub slice_bounds-fold-count : goal.slice_bounds-fold-count
-slice_bounds-fold-count c = omega (arith, input-long _ (sym c.is_input.ensures ∙ c.if-not-is_input.false))
-
-pub slice_bounds-fold-start : goal.slice_bounds-fold-start
-slice_bounds-fold-start c = omega (arith, input-long _ (sym c.is_input.ensures ∙ c.if-not-is_input.false))
 
 pub returns : goal.returns
 returns c =
