@@ -44,7 +44,7 @@ fn outcome(step: session::Stepped) -> [u8; 17]
     let result = step.answer;
     let record = step.record;
     let mut line = [0u8; 17];
-    line[0] = (answer::number_of(result) % 256) as u8;
+    line[0] = answer::number_of(result).to_le_bytes()[0];
     words::store32(&mut line, 1, record.width);
     words::store32(&mut line, 5, (record.last % 0x1_0000_0000) as u32);
     words::store32(&mut line, 9, record.blocks);
@@ -404,7 +404,8 @@ fn open(to: &mut impl Write, both: Sessions, p: &[u8]) -> io::Result<Sessions> {
     Ok(Sessions { receiver, sender })
 }
 
-// What a record asks for: the sessions' records, both opened, a whole batch; or a single step, on a record of its own.
+// What a record asks for: the sessions' records, both opened, a whole batch; or a single step, on a record of its own. (A kind is a byte of the
+// input, matched here alone.)
 fn case(to: &mut impl Write, both: Sessions, kind: u8, p: &[u8]) -> io::Result<Sessions> {
     match kind {
         1 => return Ok(set(both, p)),

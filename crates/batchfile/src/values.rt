@@ -28,7 +28,8 @@ pub fn head_right(head: usize) -> bool
     matches!(head, sizes::HEAD_LENGTH | sizes::SHORT_HEAD_LENGTH)
 }
 
-// Whether a setup has its length where it is present.
+// Whether a setup has its length where it is present. (Presence and length stay apart, here and in what follows, as the definitions `setup_right`
+// and `file_order` have them.)
 fn setup_right(present: bool, setup: usize) -> bool
     ensures { result ≡ setup_right present setup }
 {

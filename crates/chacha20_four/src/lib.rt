@@ -28,6 +28,8 @@ pub struct State {
     pub x15: u32,
 }
 
+// A lane's number is a plain number below 4, here and in what follows: it counts loops, and a type of its own would be made in each turn, to be
+// taken apart at the next index.
 fn get(t: &[u32; 64], l: usize) -> State
     requires { l < 4 }
     ensures { listed result ≡ lane l 16 t.now }

@@ -42,7 +42,8 @@ fn part_of<'a>(file: &'a [u8], a: usize, e: usize) -> &'a [u8]
     &file[start..e.clamp(start, file.len())]
 }
 
-// The body of a kind: 1 the setup, 2 the head, 3 the correction, 4 the key, 5 the check. Any other number has none.
+// The body of a kind: 1 the setup, 2 the head, 3 the correction, 4 the key, 5 the check. Any other number has none, as `HandsOut` promises, so the
+// kind is a number here.
 pub fn body<'a>(r: Reader<'a>, kind: u32) -> &'a [u8]
     ensures { HandsOut r.entry kind result }
 {

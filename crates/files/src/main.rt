@@ -84,7 +84,7 @@ fn print_found(to: &mut impl Write, file: &[u8]) -> io::Result<()> {
         Err(refusal) => (Err(refusal), FileHead::default(), Places::nowhere(end)),
     };
     let mut line = [0u8; 65];
-    line[0] = (answer::number_of(answer) % 256) as u8;
+    line[0] = answer::number_of(answer).to_le_bytes()[0];
     words::store32(&mut line, 1, head.width);
     words::store32(&mut line, 5, head.blocks);
     words::store64(&mut line, 9, head.batch);
@@ -126,7 +126,7 @@ fn print_written(
 ) -> io::Result<()> {
     let answer = filewriter::write(head, bodies, file);
     let mut line = [0u8; 33];
-    line[0] = (answer::number_of(answer) % 256) as u8;
+    line[0] = answer::number_of(answer).to_le_bytes()[0];
     words::copy_part(&mut line, 1, &sha256::one::digest(file));
     cases::print(to, &line)
 }
@@ -212,6 +212,7 @@ fn again(to: &mut impl Write, p: &[u8]) -> io::Result<()> {
     print_again(to, file, &mut out[0..n])
 }
 
+// What a record asks for. (A kind is a byte of the input, matched here alone.)
 fn case(to: &mut impl Write, kind: u8, p: &[u8]) -> io::Result<()> {
     match kind {
         1 => read(to, p),
@@ -221,6 +222,7 @@ fn case(to: &mut impl Write, kind: u8, p: &[u8]) -> io::Result<()> {
     }
 }
 
+// (The programs' mains stay apart: only a main may be handed the runtime, and what it does beside is the case.)
 fn main(rt: HostRuntime) -> io::Result<()> {
     let mut buffer = cases::million(0);
     let n = cases::read_full(&mut rt.stdin(), &mut buffer)?;

@@ -75,7 +75,7 @@ fn lay_digest(out: &mut [u8], at: usize, body: &[u8]) -> usize
     words::lay(out, next, b"\n")
 }
 
-// The line of a body.
+// The line of a body. (The kind is the number that is printed.)
 fn lay_body(out: &mut [u8], at: usize, kind: u32, body: &[u8]) -> usize
     requires { Room out.old at (body_line kind body.now) }
     ensures { Laid out.old at (body_line kind body.now) out.new result }

@@ -71,7 +71,7 @@ fn write_answer(head: FileHead, bodies: Bodies<'_>, file: usize) -> Result<(), R
 }
 
 // Lays an entry over the file from a place on, and returns the place after it. So do the functions that follow, each with a piece of its
-// own.
+// own. (The kind is a number, as it is counted from entry to entry.)
 fn lay_entry(file: &mut [u8], at: usize, kind: usize, place: usize, length: usize) -> usize
     requires { Room file.old at (bytes 4 kind ++ (bytes 4 place ++ bytes 4 length)) × (kind < 2 ^ 32) × (place < 2 ^ 32) × (length < 2 ^ 32) }
     ensures { Laid file.old at (bytes 4 kind ++ (bytes 4 place ++ bytes 4 length)) file.new result }

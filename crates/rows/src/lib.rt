@@ -138,7 +138,8 @@ fn lay(w: &[u64; 128], rows: &mut [u8])
     }
 }
 
-// The 64 rows of a table of columns of len bytes from that row on which stands at byte `at`, weight 1.
+// The 64 rows of a table of columns of len bytes from that row on which stands at byte `at`, weight 1. (len and table stay apart: a type that
+// says that they fit would be made and taken apart at each call.)
 pub fn block_rows(len: usize, table: &[u8], at: usize, rows: &mut [u8])
     requires { (length table.now ≡ 128 * len) × (at + 8 ≤ len) × (len ≤ 65536) × (length rows.old ≡ 1024) }
     ensures { (j : ℕ) → Stands j at 0 → rows.new ≡ concat 64 (λ i. row_of columns len table.now (j + i)) }

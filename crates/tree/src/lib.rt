@@ -64,7 +64,8 @@ pub fn totals(nodes: &[u32; 32], levels: usize, t: &mut [u32])
     }
 }
 
-// Adds the blocks of four keys under a nonce, by the counters from 0 on, to u.
+// Adds the blocks of four keys under a nonce, by the counters from 0 on, to u. (That u has whole blocks, eight at most, is said of a lent slice, here
+// and wherever trees are walked: a slice keeps its length, and a struct that holds one would have to say so in each clause.)
 fn add_blocks(nonce: &[u8; 12], keys: &[u32; 32], u: &mut [u32])
     requires { (length u.old % 64 ≡ 0) × (length u.old ≤ 512) }
     ensures { u.new ≡ xor_each u.old (u_word (block_word nonce.now) 0 keys.now) }

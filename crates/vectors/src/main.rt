@@ -111,7 +111,7 @@ fn end_of(p: &[u8], at: usize, start: usize) -> usize
 // An answer's number and the digest of a range.
 fn print_answer(to: &mut impl Write, answer: Result<(), Refusal>, s: &[u8]) -> io::Result<()> {
     let mut line = [0u8; 33];
-    line[0] = (answer::number_of(answer) % 256) as u8;
+    line[0] = answer::number_of(answer).to_le_bytes()[0];
     words::copy_part(&mut line, 1, &sha256::one::digest(s));
     cases::print(to, &line)
 }
@@ -168,6 +168,7 @@ fn line(to: &mut impl Write, p: &[u8]) -> io::Result<()> {
     to.write_all(foldtext::line(p).as_bytes())
 }
 
+// What a record asks for. (A kind is a byte of the input, and each program has kinds of its own: an enum of them would be matched here alone.)
 fn case(to: &mut impl Write, kind: u8, p: &[u8]) -> io::Result<()> {
     match kind {
         1 => block(to, p),
