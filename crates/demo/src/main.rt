@@ -288,6 +288,7 @@ fn play(
 // A batch whose key a seed and its number give.
 fn planned(number: u32, blocks: u32, flip: u8) -> Batch
     requires { blocks ≤ 15 }
+    ensures { result.blocks ≡ blocks }
 {
     let key = words::load64(&cases::derived(2, number), 0);
     Batch {
