@@ -2,7 +2,7 @@
 ghost use Rattle.std.specs.Prelude.{◌≡◌, ◌<◌};
 ghost use Rattle.chacha20.specs.ChaCha.{quarter_at, double_round, double_rounds, start_of, block_of};
 
-// The quarter round on words i, j, k and l of a state.
+// The quarter round on words i, j, k and l of a state, which are numbers as in RFC 8439.
 fn quarter_round(i: usize, j: usize, k: usize, l: usize, s: &mut [u32; 16])
     requires { (i < 16) × (j < 16) × (k < 16) × (l < 16) }
     ensures { s.new ≡ quarter_at i j k l s.old }

@@ -176,7 +176,7 @@ fn all_trees(
     }
 }
 
-// The sender's table, by a stream, whose columns have len bytes.
+// The sender's table, by a stream, whose columns have len bytes. (len is lent for itself: no range here is one column.)
 pub fn correct(
     trees: Trees,
     stream: Stream,

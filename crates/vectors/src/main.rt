@@ -1,6 +1,6 @@
 // Runs the proved functions on the records of standard input, and prints what each gives, a line a record. The records and the lines to
 // be printed are written by reference/. What a program reads and writes no contract can say, so these functions have none; that the lines
-// are right is for the comparison to show.
+// are right is for the comparison to show. (to and p stay two parameters, here and in the other programs: each function takes them apart.)
 #![tactic(auto)]
 
 ghost use Rattle.std.specs.Prelude.{◌+◌, ◌≤◌, length};
