@@ -51,10 +51,6 @@ not_first i ne = omega arith
 pub one-fits : (i m : ℕ) → 0 < i → m ≤ i * m
 one-fits i m pos = omega (arith, mul-le-mul_right m pos)
 
--- at most 8 columns of at most 128 elements
-pub columns-fit : (k m : ℕ) → k ≤ 8 → m ≤ 128 → k * m ≤ 1024
-columns-fit k m hk hm = omega (arith, mul-le-mul_right m hk)
-
 -- ---- tables
 
 -- column c belongs to tree c / k, bit c % k

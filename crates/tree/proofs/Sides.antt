@@ -36,17 +36,6 @@ side-lt k d l = omega arith
 pub sides-lt : (m k : ℕ) (delta : List ℕ) → Sides (sides_of m k delta)
 sides-lt m k delta = tabulate-lt m 2 (λ c. side_of k (delta_of k delta (c / k)) (c % k)) (omega arith) (λ c. side-lt k _ _)
 
--- sides that filled the front of a longer range, lent again
-pub lent-sides : (m k : ℕ) (delta room ys rest : List ℕ) → length room ≡ m → length ys ≡ length room → ys ≡ sides_of (length room) k delta
-    → take (m - 0) (ys ++ rest) ≡ sides_of m k delta
-lent-sides m k delta room ys rest long same made =
-    let none : m ≡ m - 0 = omega arith in
-    take_at ys rest (m - 0) (same ∙ long ∙ none) ∙ made ∙ ap (λ (i : ℕ). sides_of i k delta) long
-
--- n trees have n * k base transfers
-pub whole-trees : (n k : ℕ) → 0 < k → n * k % k ≡ 0
-whole-trees n k pos = ap (λ (i : ℕ). i % k) (sym (add-zero (n * k))) ∙ digits_mod n pos
-
 -- ---- the levels of the base transfers in turn
 
 pub level-first : (k : ℕ) → 0 ≡ 0 % k
