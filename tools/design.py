@@ -60,7 +60,7 @@ def main():
                 found["3 loops that count by hand (while, loop)"].append(here)
             if re.match(r"\s*('\w+: )?for\b", code):
                 found["3 (for comparison: for)"].append(here)
-            if re.search(r"% 256\) as u8|>> \d+\) % 256|\* 0x1_?0+\b|/ 0x1_?0+\b|% 0x1_?0+\b", code):
+            if re.search(r"% 256\) as u8|>> \d+\) % 256|\* 0x1[0_]+\b|/ 0x1[0_]+\b|% 0x1[0_]+\b", code):
                 found["4 bytes and halves of numbers by hand"].append(here)
             if re.search(r"\blen: usize,?$", code):
                 found["6 a buffer's length beside it"].append(here)
@@ -101,9 +101,7 @@ def main():
             print(f"{len(where):5}  {what}")
         elif what.startswith(point):
             print(f"{what}: {len(where)}")
-            for here in where:
-                if here:
-                    print("    " + here)
+            print("".join(f"    {here}\n" for here in where if here), end="")
 
 
 main()

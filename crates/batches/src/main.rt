@@ -18,11 +18,7 @@ fn length_at(p: &[u8], at: usize) -> usize
     requires { at + 4 ≤ length p.now }
     ensures { result ≤ 61472 }
 {
-    let n = words::load32(p, at) as usize;
-    if 61472 < n {
-        return 61472;
-    }
-    n
+    (words::load32(p, at) as usize).min(61472)
 }
 
 // The record of a session at a place: the last batch number has 8 bytes; width before it, and blocks and stage after it, have 4 each.
@@ -46,7 +42,7 @@ fn outcome(step: session::Stepped) -> [u8; 17]
     let mut line = [0u8; 17];
     line[0] = answer::number_of(result).to_le_bytes()[0];
     words::store32(&mut line, 1, record.width);
-    words::store32(&mut line, 5, (record.last % 0x1_0000_0000) as u32);
+    words::copy_part(&mut line, 5, &words::bytes64(record.last)[0..4]);
     words::store32(&mut line, 9, record.blocks);
     words::store32(&mut line, 13, record.stage);
     line
@@ -57,8 +53,7 @@ fn print_line(to: &mut impl Write, line: &[u8], step: session::Stepped) -> io::R
     cases::print_digits(to, line)?;
     let record = step.record;
     if 0xffff_ffff < record.last {
-        let upper = (record.last / 0x1_0000_0000) as u32;
-        cases::print_digits(to, &words::bytes32(upper))?;
+        cases::print_digits(to, &words::bytes64(record.last)[4..8])?;
     }
     cases::print(to, b"")
 }
@@ -86,102 +81,35 @@ fn print_step(
     print_line(to, &line, step)
 }
 
-// A session's record, a batch number, blocks, a seed and the lengths of roots, choices, table and correction: the step.
-fn receiver_start(to: &mut impl Write, p: &[u8]) -> io::Result<()> {
-    if p.len() != 52 {
+// A single step, on a record of its own: a session's record, a batch number and blocks or a key, a seed, and the lengths of the four ranges that
+// the step is lent: roots, choices, table and correction at the receiver's start; siblings, delta, correction and table at the sender's correction;
+// choices, table, message and pads at the receiver's answer; table, delta, message and pads at the sender's verify.
+fn single(to: &mut impl Write, kind: u8, p: &[u8]) -> io::Result<()> {
+    let seed_at = if kind <= 5 { 32 } else { 28 };
+    if p.len() != seed_at + 20 {
         return Ok(());
     }
-    let seed = words::load32(p, 32);
-    let roots_len = length_at(p, 36);
-    let choices_len = length_at(p, 40);
-    let table_len = length_at(p, 44);
-    let correction_len = length_at(p, 48);
-    let all_roots = cases::derived(seed, 0);
-    let mut all_choices = cases::derived(seed, 1);
-    let mut all_table = cases::derived(seed, 2);
-    let mut all_correction = cases::derived(seed, 3);
-    let roots = &all_roots[0..roots_len];
-    let choices = &mut all_choices[0..choices_len];
-    let table = &mut all_table[0..table_len];
-    let correction = &mut all_correction[0..correction_len];
+    let seed = words::load32(p, seed_at);
+    let mut all_a = cases::derived(seed, 0);
+    let mut all_b = cases::derived(seed, 1);
+    let mut all_c = cases::derived(seed, 2);
+    let mut all_d = cases::derived(seed, 3);
+    let a = &mut all_a[0..length_at(p, seed_at + 4)];
+    let b = &mut all_b[0..length_at(p, seed_at + 8)];
+    let c = &mut all_c[0..length_at(p, seed_at + 12)];
+    let d = &mut all_d[0..length_at(p, seed_at + 16)];
     let record = record_at(p, 0);
-    let batch = words::load64(p, 20);
+    // the batch number, or the key
+    let number = words::load64(p, 20);
     let blocks = words::load32(p, 28);
-    let step = session::receiver_start(record, roots, batch, blocks, choices, table, correction);
-    print_step(to, step, roots, choices, table, correction)
-}
-
-// A session's record, a batch number, blocks, a seed and the lengths of siblings, delta, correction and table: the step.
-fn sender_correct(to: &mut impl Write, p: &[u8]) -> io::Result<()> {
-    if p.len() != 52 {
-        return Ok(());
-    }
-    let seed = words::load32(p, 32);
-    let siblings_len = length_at(p, 36);
-    let delta_len = length_at(p, 40);
-    let correction_len = length_at(p, 44);
-    let table_len = length_at(p, 48);
-    let all_siblings = cases::derived(seed, 0);
-    let all_delta = cases::derived(seed, 1);
-    let all_correction = cases::derived(seed, 2);
-    let mut all_table = cases::derived(seed, 3);
-    let siblings = &all_siblings[0..siblings_len];
-    let delta = &all_delta[0..delta_len];
-    let correction = &all_correction[0..correction_len];
-    let table = &mut all_table[0..table_len];
-    let record = record_at(p, 0);
-    let batch = words::load64(p, 20);
-    let blocks = words::load32(p, 28);
-    let step = session::sender_correct(record, siblings, delta, batch, blocks, correction, table);
-    print_step(to, step, siblings, delta, correction, table)
-}
-
-// A session's record, a key, a seed and the lengths of choices, table, message and pads: the step.
-fn receiver_answer(to: &mut impl Write, p: &[u8]) -> io::Result<()> {
-    if p.len() != 48 {
-        return Ok(());
-    }
-    let seed = words::load32(p, 28);
-    let choices_len = length_at(p, 32);
-    let table_len = length_at(p, 36);
-    let message_len = length_at(p, 40);
-    let pads_len = length_at(p, 44);
-    let all_choices = cases::derived(seed, 0);
-    let all_table = cases::derived(seed, 1);
-    let mut all_message = cases::derived(seed, 2);
-    let mut all_pads = cases::derived(seed, 3);
-    let choices = &all_choices[0..choices_len];
-    let table = &all_table[0..table_len];
-    let message = &mut all_message[0..message_len];
-    let pads = &mut all_pads[0..pads_len];
-    let record = record_at(p, 0);
-    let key = words::load64(p, 20);
-    let step = session::receiver_answer(record, key, choices, table, message, pads);
-    print_step(to, step, choices, table, message, pads)
-}
-
-// A session's record, a key, a seed and the lengths of table, delta, message and pads: the step.
-fn sender_verify(to: &mut impl Write, p: &[u8]) -> io::Result<()> {
-    if p.len() != 48 {
-        return Ok(());
-    }
-    let seed = words::load32(p, 28);
-    let table_len = length_at(p, 32);
-    let delta_len = length_at(p, 36);
-    let message_len = length_at(p, 40);
-    let pads_len = length_at(p, 44);
-    let all_table = cases::derived(seed, 0);
-    let all_delta = cases::derived(seed, 1);
-    let all_message = cases::derived(seed, 2);
-    let mut all_pads = cases::derived(seed, 3);
-    let table = &all_table[0..table_len];
-    let delta = &all_delta[0..delta_len];
-    let message = &all_message[0..message_len];
-    let pads = &mut all_pads[0..pads_len];
-    let record = record_at(p, 0);
-    let key = words::load64(p, 20);
-    let step = session::sender_verify(record, key, table, delta, message, pads);
-    print_step(to, step, table, delta, message, pads)
+    let step = match kind {
+        4 => session::receiver_start(record, a, number, blocks, b, c, d),
+        5 => session::sender_correct(record, a, b, number, blocks, c, d),
+        6 => session::receiver_answer(record, number, a, b, c, d),
+        7 => session::sender_verify(record, number, a, b, c, d),
+        _ => return Ok(()),
+    };
+    print_step(to, step, a, b, c, d)
 }
 
 // Makes an alteration, 8 bytes (a place in 4, a range's number in 2 and what to add in 2), if it has this range's number.
@@ -411,15 +339,12 @@ fn case(to: &mut impl Write, both: Sessions, kind: u8, p: &[u8]) -> io::Result<S
         1 => return Ok(set(both, p)),
         2 => return open(to, both, p),
         3 => return batch(to, both, p),
-        4 => receiver_start(to, p)?,
-        5 => sender_correct(to, p)?,
-        6 => receiver_answer(to, p)?,
-        7 => sender_verify(to, p)?,
-        _ => {}
+        _ => single(to, kind, p)?,
     }
     Ok(both)
 }
 
+// (Apart from other programs' mains: only a main is handed the runtime.)
 fn main(rt: HostRuntime) -> io::Result<()> {
     let mut buffer = cases::million(0);
     let n = cases::read_full(&mut rt.stdin(), &mut buffer)?;

@@ -3,7 +3,7 @@ ghost use Rattle.std.specs.Prelude.{◌≡◌, length, MatchOption};
 ghost use Rattle.std.specs.Iterator.{at_most};
 ghost use Rattle.cases.specs.Records.{Cut, FirstRecord};
 
-// A record: its kind, and what follows its length.
+// A record: its kind, a byte that each program reads by itself, and what follows its length.
 #[derive(Clone, Copy)]
 pub struct Record<'a> {
     pub kind: u8,

@@ -58,7 +58,7 @@ fn start(key: &[u8; 32], counter: u32, nonce: &[u8; 12]) -> [u32; 16]
     ]
 }
 
-// The block of a key, a counter and a nonce.
+// The block of a key, a counter and a nonce: three things apart, as RFC 8439 has them.
 pub fn block(key: &[u8; 32], counter: u32, nonce: &[u8; 12]) -> [u8; 64]
     ensures { result ≡ block_of key.now counter nonce.now }
 {

@@ -13,7 +13,8 @@ pub fn room(len: usize) -> usize
     len.next_multiple_of(64)
 }
 
-// Fills out with k columns of len bytes from lane l of v, where a column begins every stride words.
+// Fills out with k columns of len bytes from lane l of v, where a column begins every stride words. (That k is at most 8, and the like, is said of a number:
+// a type for it would be made in each caller's turn.)
 fn store_tree(k: usize, len: usize, stride: usize, v: &[u32], l: usize, out: &mut [u8])
     requires k_bound { (k ≤ 8) × (len ≤ stride) × (stride ≤ 128) × (len % 4 ≡ 0) × (l < 4) }
     requires stride_in_bounds { (k * stride ≤ length v.now) × (length out.old ≡ k * len) }

@@ -15,7 +15,7 @@ ghost use Rattle.consistency.specs.Message.{check_message, sent_choice, sent_col
 
 use gf64::Word;
 
-// Lays out four words, 8 bytes each.
+// Lays out four words, 8 bytes each. (A lent range's length is said of the slice, which keeps it.)
 fn store_four(out: &mut [u8], x: [u64; 4])
     requires { length out.old ≡ 32 }
     ensures { out.new ≡ concat 4 (λ i. bytes 8 (get_or x i 0)) }

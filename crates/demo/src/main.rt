@@ -71,6 +71,18 @@ fn choose(pair: &[u8], mask: u8, out: &mut [u8])
     }
 }
 
+// 1 where two pads are the same in every byte, 0 elsewhere. (Pads are secret: `==` might stop at the first byte that differs.)
+fn same(a: &[u8], b: &[u8]) -> u64
+    requires { (32 ≡ length a.now) × (32 ≡ length b.now) }
+    ensures { result ≤ 1 }
+{
+    let mut difference: u8 = 0;
+    for i in 0..32usize {
+        difference |= a[i] ^ b[i];
+    }
+    u64::from(difference == 0)
+}
+
 // Of eight transfers with the choices of one byte, how many of the receiver's pads are the sender's pad of that choice.
 fn agree_in_eight(choices: u8, mine: &[u8], theirs: &[u8]) -> u64
     requires { (256 ≡ length mine.now) × (512 ≡ length theirs.now) }
@@ -81,9 +93,7 @@ fn agree_in_eight(choices: u8, mine: &[u8], theirs: &[u8]) -> u64
     let mut pad = [0u8; 32];
     for j in 0..8usize {
         choose(&theirs[64 * j..64 * j + 64], 255 * (left % 2), &mut pad);
-        if mine[32 * j..32 * j + 32] == pad[..] {
-            count += 1;
-        }
+        count += same(&mine[32 * j..32 * j + 32], &pad);
         left = left / 2;
     }
     count
@@ -101,9 +111,13 @@ fn agree(bytes: usize, choices: &[u8], mine: &[u8], theirs: &[u8]) -> u64
     count
 }
 
-// Whether a range of zeros was written to.
+// Whether a range of zeros was written to. (It has pads, so `any` doesn't serve, which might stop early.)
 fn written(s: &[u8]) -> bool {
-    s.iter().any(|byte| *byte != 0)
+    let mut any: u8 = 0;
+    for byte in s {
+        any |= *byte;
+    }
+    any != 0
 }
 
 // What a comparison of both sides' pads finds.

@@ -31,7 +31,8 @@ struct Part<'a> {
     bytes: &'a [u8],
 }
 
-// Parts that stand one after the other: of each its place, its length, 4 bytes each, and its bytes; up to the first that is cut.
+// Parts that stand one after the other (no `cases::input::Records`: a part's head is a place, and one iterator over both would need a trait of heads): of
+// each its place, its length, 4 bytes each, and its bytes; up to the first that is cut.
 #[derive(Clone, Copy)]
 struct Parts<'a> {
     rest: &'a [u8],
@@ -222,7 +223,7 @@ fn case(to: &mut impl Write, kind: u8, p: &[u8]) -> io::Result<()> {
     }
 }
 
-// (The programs' mains stay apart: only a main may be handed the runtime, and what it does beside is the case.)
+// (The mains of the programs stay apart: only a main is handed the runtime, and what it does beside is the program's own case.)
 fn main(rt: HostRuntime) -> io::Result<()> {
     let mut buffer = cases::million(0);
     let n = cases::read_full(&mut rt.stdin(), &mut buffer)?;

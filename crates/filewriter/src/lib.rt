@@ -14,7 +14,7 @@ ghost use Rattle.filewriter.specs.Lengths.{size_in};
 use answer::{Refusal, require};
 use batchfile::FileHead;
 
-// The bodies of a batch but its head. An empty setup means none.
+// The bodies of a batch but its head. An empty setup means none, as C lends it (`bodies_with`).
 #[derive(Clone, Copy)]
 pub struct Bodies<'a> {
     pub setup: &'a [u8],
@@ -97,7 +97,7 @@ fn lay_contents(file: &mut [u8], n: usize, lengths: [usize; 5]) -> usize
     at
 }
 
-// The long head. Numbers beyond a byte were refused before.
+// The long head. Numbers beyond a byte were refused before; `%` shows that a cast loses nothing, where `try_from` would test it again.
 fn lay_head(file: &mut [u8], at: usize, head: FileHead) -> usize
     requires { Room file.old at (head_bytes head_length head) }
     ensures { Laid file.old at (head_bytes head_length head) file.new result }

@@ -116,7 +116,7 @@ pub fn softspoken_sender_verify(
     answer::number_of(step.answer)
 }
 
-// What reading a file gives back: the answer's number, the head's values, where each body begins, and the file's end. A body reaches from its
+// What reading a file gives back, as C has it: the answer's number, the head's values, where each body begins, and the file's end. A body reaches from its
 // place to the next.
 #[repr(C)]
 #[derive(Clone, Copy)]

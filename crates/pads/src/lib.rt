@@ -26,8 +26,8 @@ fn write_input(out: &mut [u8], batch: u64, row: u32, value: &[u8])
     words::copy_part(out, 16, value);
 }
 
-// The inputs of the pads of four rows, from their values. (The number of the first row and the values stay apart: values are cut out of a block's, and
-// their number goes up with them.)
+// The inputs of the pads of four rows, from their values. (The number of the first row and the values stay apart: values are cut out of a
+// block's, and their number goes up with them.)
 fn four_inputs(out: &mut [u8; 128], batch: u64, first: u32, values: &[u8])
     requires { ValuesFit 4 first values.now }
     ensures { out.new ≡ of_values 4 (pad_input batch) first values.now }
@@ -149,8 +149,8 @@ where
     }
 }
 
-// The pads of all rows of a table but those of the spent block. (What is asked of blocks and table is what both public functions ask.) From block to block the number of its first row and the byte at which that row
-// stands are carried along.
+// The pads of all rows of a table but those of the spent block. (What is asked of blocks and table is what both public functions ask.) From
+// block to block the number of its first row and the byte at which that row stands are carried along.
 fn table_pads<const SIZE: usize, P>(side: &P, blocks: usize, table: &[u8], pads: &mut [u8])
 where
     P: Pads<SIZE>,

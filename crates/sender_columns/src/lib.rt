@@ -40,8 +40,8 @@ fn add_where(v: &mut [u32], u: &[u32], sides: [u8; 4])
 
 // One level of four trees of k levels. The leaves below the sibling made there are those that part from delta's path at bit r. Each of them
 // has bit r of y ⊕ delta_i, so what u gains goes to column r; and u as it was before goes there where delta has the bit.
-// k, sides and s come apart, and so do u and v: a struct of them would hold references, and each clause here and below would have to name
-// their values by way of its own.
+// k, sides and s come apart, and so do u and v: of a struct that holds them each clause, here and below, would have to say which values its
+// references had at the start.
 fn add_level(
     k: usize,
     level: usize,

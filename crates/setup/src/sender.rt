@@ -15,7 +15,7 @@ fn unmask(out: &mut [u8], totals: &[u8], pad: &[u8], side: u8)
     requires { (length out.old ≡ 32) × (length totals.now ≡ 64) × (length pad.now ≡ 32) × (side < 2) }
     ensures { out.new ≡ tabulate 32 (λ j. get_or totals.now (32 * side + j) 0 ⊕ get_or pad.now j 0) }
 {
-    // the mask's low byte alone
+    // a byte of the mask: a second mask for bytes would be its twin
     let ones = (tree::side::mask(side) % 256) as u8;
     for j in 0..32 {
         let left = totals[j];

@@ -39,7 +39,8 @@ impl Trees {
     }
 }
 
-// The four nodes at a place of s: in four blocks the left children stand at 0, the right ones at 32.
+// The four nodes at a place of s: in four blocks the left children stand at 0, the right ones at 32. (A loop: with `from_fn`
+// the proof of its 32 words did not close.)
 pub fn nodes_at(s: &[u32], at: usize) -> [u32; 32]
     requires { at + 32 ≤ length s.now }
     ensures { result ≡ part at 32 s.now }

@@ -185,6 +185,7 @@ fn case(to: &mut impl Write, kind: u8, p: &[u8]) -> io::Result<()> {
     }
 }
 
+// (Apart from other programs' mains: only a main is handed the runtime.)
 fn main(rt: HostRuntime) -> io::Result<()> {
     let mut buffer = cases::million(0);
     let n = cases::read_full(&mut rt.stdin(), &mut buffer)?;
