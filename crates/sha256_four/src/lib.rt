@@ -1,7 +1,7 @@
 // Four digests at once, side by side, so that the compiler works on four words with one instruction: word w of lane l stands at 4w + l.
 #![tactic(auto)]
 
-ghost use Rattle.std.specs.Prelude.{◌≡◌, ◌+◌, ◌<◌, get_or};
+ghost use Rattle.std.specs.Prelude.{◌≡◌, ◌+◌, ◌<◌, get_or, take};
 ghost use Rattle.words.specs.Bytes.{concat};
 ghost use Rattle.words.specs.Lanes.{lane, put_lane, laned};
 ghost use Rattle.sha256_four.specs.FourDigests.{digests, words_of, work_of, schedules, schedule_in, four_in_lanes, rounds_in_lanes, digest_in};
@@ -24,18 +24,24 @@ fn first_word(m: &[u8; 128], at: usize) -> u32
     }
 }
 
-// The 64 words of the blocks, and 192 that come from those before them.
-fn schedule(m: &[u8; 128]) -> [u32; 256]
-    ensures { result ≡ schedules m.now }
+// The 64 words of the blocks.
+fn load(m: &[u8; 128], w: &mut [u32; 256])
+    ensures { take 64 w.new ≡ take 64 (schedules m.now) }
 {
-    let mut w = [0u32; 256];
     for at in 0..64usize {
         w[at] = first_word(m, at);
     }
+}
+
+// The 64 words of the blocks, and 192 that come from those before them.
+// They are written where they are used: an array that is returned is copied.
+fn schedule(m: &[u8; 128], w: &mut [u32; 256])
+    ensures { w.new ≡ schedules m.now }
+{
+    load(m, &mut *w);
     for at in 0..192usize {
         w[at + 64] = sha256::next(w[at + 56], w[at + 36], w[at + 4], w[at]);
     }
-    w
 }
 
 // The working variables in lane l.
@@ -139,7 +145,8 @@ fn collect(t: &[u32; 32]) -> [u8; 128]
 pub fn digest(m: [u8; 128]) -> [u8; 128]
     ensures { result ≡ digests m }
 {
-    let w = schedule(&m);
+    let mut w = [0u32; 256];
+    schedule(&m, &mut w);
     let t = rounds(&w);
     collect(&t)
 }

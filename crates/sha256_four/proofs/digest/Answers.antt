@@ -9,5 +9,5 @@ returns c =
     let m = c.args.m in
     let len : length m ≡ 128 = search rules in
     c.collect.ensures
-    ∙ ap (λ (t : List ℕ). concat 4 (λ l. digest_in l t)) (c.rounds-t.ensures ∙ ap (rounds_in_lanes 64) c.schedule-w.ensures)
+    ∙ ap (λ (t : List ℕ). concat 4 (λ l. digest_in l t)) (c.rounds-t.ensures ∙ ap (rounds_in_lanes 64) c.schedule.ensures)
     ∙ lane-digests m len

@@ -1,24 +1,16 @@
 use Rattle.std.proofs.Common.{◌≡◌, ◌+◌, length, sym, ◌∙◌, arith, rules}
-use Rattle.words.proofs.Progress.{begun-none, begun-set, begun_all}
+use Rattle.words.proofs.Progress.{begun-set, begun_all}
 use Rattle.sha256.specs.Sha.{scheduled}
-use Rattle.sha256.proofs.Words.{scheduled-length, word_first, next-done}
+use Rattle.sha256.proofs.Filled.{take-begun}
+use Rattle.sha256.proofs.Words.{scheduled-length, first-words, next-done}
 use Rattle.sha256.proofs.one.schedule.Goals as goal
-
-pub loop-t-init : goal.loop-t-init
-loop-t-init c =
-    let len : length c.args.w.now ≡ 64 = search rules in
-    begun-none _ _ (len ∙ sym (scheduled-length c.args.b.now 48))
-
-pub loop-t-preserved : goal.loop-t-preserved
-loop-t-preserved c =
-    let h = c.loop-t in
-    let b = c.args.b.now in
-    begun-set h.t _ (scheduled 48 b) h.w (omega (arith, scheduled-length b 48)) (c.word.ensures ∙ sym (word_first b h.t (omega arith))) h.invariant
 
 pub loop-i-init : goal.loop-i-init
 loop-i-init c =
-    let e : c.loop-t.t ≡ 16 = omega arith in
-    rw e at c.loop-t.invariant
+    let b = c.args.b.now in
+    let w = c.load.new.w in
+    let len : length w ≡ 64 = search rules in
+    take-begun 16 (scheduled 48 b) w (len ∙ sym (scheduled-length b 48)) (c.load.ensures ∙ sym (first-words b 48))
 
 pub loop-i-preserved : goal.loop-i-preserved
 loop-i-preserved c =
