@@ -10,6 +10,7 @@ use Rattle.std.specs.Prelude.{Ok, Err}
 use Rattle.answer.specs.declared.Refusal.{Refusal}
 use Rattle.answer.specs.declared.Refusal.TheVariants.{Check}
 use Rattle.answer.specs.Answer.{Answer, Done, number, is_done, when_done, when_failed, Order, first_of, Among}
+use Rattle.answer.specs.Next.{next}
 
 -- a condition doesn't both fail and hold
 pub apart : {P : Type 0} → ◌≡◌ {A = Bool} false true → P
@@ -144,3 +145,33 @@ is-done (Err x) e = apart e
 pub not_done : (a : Answer) → a ≢ Done → is_done a ≡ false
 not_done (Ok tt) ne = absurd (ne refl)
 not_done (Err x) ne = refl
+
+-- ---- a chain of `next` gives the first of its conditions
+
+abbrev pub chain : Answer → Order → Answer
+chain a [] = a
+chain a (c ∷ cs) = chain (next a c.0 c.1) cs
+
+stopped : (x : Refusal) (cs : Order) → chain (Err x) cs ≡ Err x
+stopped x [] = refl
+stopped x (c ∷ cs) = stopped x cs
+
+pub chain_first : (cs : Order) → chain Done cs ≡ first_of cs
+unfolding first_of
+chain_first [] = refl
+chain_first (c ∷ cs) = here c.0 (chain_first cs)
+  where
+    here : (b : Bool) → chain Done cs ≡ first_of cs → chain (next Done b c.1) cs ≡ cond b (first_of cs) (Err c.1)
+    here true later = later
+    here false later = stopped c.1 cs
+
+-- and it may go on from the first of others
+pub chain-onward : (cs ds : Order) → chain (first_of cs) ds ≡ first_of (cs ++ ds)
+unfolding first_of
+chain-onward [] ds = chain_first ds
+chain-onward (c ∷ cs) ds = here c.0 (chain-onward cs ds)
+  where
+    here : (b : Bool) → chain (first_of cs) ds ≡ first_of (cs ++ ds)
+        → chain (cond b (first_of cs) (Err c.1)) ds ≡ cond b (first_of (cs ++ ds)) (Err c.1)
+    here true later = later
+    here false later = stopped c.1 ds

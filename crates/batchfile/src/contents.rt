@@ -17,7 +17,8 @@ fn field(file: &[u8], e: usize, i: usize) -> usize
     words::load32(file, contents_length(e) + 4 * i) as usize
 }
 
-// Whether entry e of n has its kind, and its body begins at a place.
+// Whether entry e of n has its kind, and its body begins at a place. (That n ≤ 5 and the like are said of a number: a value of a type for it
+// would be made in each turn.)
 #[tactic(auto, unfolding(crate::specs::File::entry_right))]
 fn entry_right(file: &[u8], n: usize, e: usize, place: usize) -> bool
     requires { (n ≡ count_of file.now) × (n ≤ 5) × (e < n) × (contents_length n ≤ length file.now) × (place ≡ place_at file.now e) }

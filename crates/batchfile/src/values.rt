@@ -1,5 +1,5 @@
 // The answer that the values of a head, the lengths of the bodies and the key get. Each refusal returns at once: a file is read in some
-// nanoseconds, of which a chain of conditions would take a third.
+// nanoseconds, and a chain that went on after a refusal took a third more.
 #![tactic(auto, unfolding(answer::specs::Answer::first_of))]
 
 ghost use Rattle.std.specs.Prelude.{◌≡◌, length};

@@ -10,6 +10,7 @@ use Rattle.words.specs.Bytes.{Range, Bytes}
 use Rattle.std.specs.Prelude.{Err}
 use Rattle.answer.specs.declared.Refusal.TheVariants.{Length, Body}
 use Rattle.answer.specs.Answer.{Answer, Done, is_done, when_done, Order, first_of}
+use Rattle.answer.specs.Next.{next}
 use Rattle.answer.proofs.Order.{new-when, all_hold, last-decides, first-refused, onward}
 use Rattle.sizes.specs.Sizes.{head_length, entries_with}
 use Rattle.rules.specs.Orders.{head_right}
@@ -23,7 +24,7 @@ use Rattle.batchfile.proofs.Batch.{Allowed, values_for, head_bytes-length, head-
 use Rattle.batchfile.proofs.Again.{head-again, head_bytes_lem, same_count, taken-is-laid, taken-allowed, batch-fits}
 use Rattle.batchfile.proofs.Witness.{Holds, laid-holds}
 use Rattle.filewriter.specs.Write.{file_of, length_of, write_answer, WriteFile}
-use Rattle.filewriter.specs.RoundTrip.{handed_out, LongHead, GivesBack, ReadsAs, WrittenReads, ReadBack, SameBytes, AbsentEmpty, next, AsTheReader, WrittenAgain}
+use Rattle.filewriter.specs.RoundTrip.{handed_out, LongHead, GivesBack, ReadsAs, WrittenReads, ReadBack, SameBytes, AbsentEmpty, AsTheReader, WrittenAgain}
 use Rattle.filewriter.proofs.Done.{file-long, write-tells, write_done}
 
 -- ---- what the reader's promise tells of a file that it takes

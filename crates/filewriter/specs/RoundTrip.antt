@@ -1,9 +1,9 @@
 -- What is said of writing and reading, over all that the writer and the reader promise. Paper 02, notes 4 and 5. Assumes nothing.
-use Rattle.std.specs.Prelude.{◌≡◌, Bool, cond, Err, [], ◌↔◌, ◌^◌, ◌<◌, eqb, length}
+use Rattle.std.specs.Prelude.{◌≡◌, [], ◌↔◌, ◌^◌, ◌<◌, eqb, length}
 use Rattle.words.specs.Bytes.{Range, Bytes}
-use Rattle.answer.specs.declared.Refusal.{Refusal}
 use Rattle.answer.specs.declared.Refusal.TheVariants.{Length}
-use Rattle.answer.specs.Answer.{Answer, Done, when_done}
+use Rattle.answer.specs.Answer.{Answer, Done}
+use Rattle.answer.specs.Next.{next}
 use Rattle.sizes.specs.Sizes.{head_length}
 use Rattle.batchfile.specs.declared.FileHead.{FileHead}
 use Rattle.batchfile.specs.declared.Places.{Places}
@@ -51,10 +51,6 @@ SameBytes =
 -- the setup or its absence with them: it is absent exactly where it is empty
 abbrev pub AbsentEmpty : Type 0
 AbsentEmpty = (file : Range) (h : FileHead) (p : Places) → ReadFile file Done h p → (count_of file ≡ 4) ↔ (body_between file p 1 ≡ [])
-
--- one condition more: where nothing was refused so far, its refusal unless it holds
-abbrev pub next : (so_far : Answer) (holds : Bool) (refusal : Refusal) → Answer
-next so_far holds refusal = when_done so_far (cond holds Done (Err refusal)) so_far
 
 -- 4. The writer gives 1, 3, 4, 8 and 9 as the reader does to the file laid out of the same numbers and bodies, and then 5: for numbers
 -- that have room in a head, and any bodies in a file whose length 4 bytes hold
