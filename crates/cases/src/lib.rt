@@ -34,7 +34,7 @@ pub fn read_full(input: &mut impl Read, range: &mut [u8]) -> io::Result<usize>
     Ok(done)
 }
 
-// Prints some bytes in hexadecimal digits.
+// Prints some bytes in hexadecimal digits. (A slice has no `Display`.)
 pub fn print_digits(to: &mut impl Write, s: &[u8]) -> io::Result<()> {
     for byte in s {
         write!(to, "{byte:02x}")?;
@@ -72,7 +72,7 @@ pub fn derived(seed: u32, range: u32) -> [u8; 61472]
     out
 }
 
-// Adds a mask to one byte, if there is one at that place.
+// Adds a mask to one byte, if there is one at that place. (No method of a slice does that.)
 pub fn alter(s: &mut [u8], at: usize, mask: u8)
     ensures { s.new ≡ set s.old at (get_or s.old at 0 ⊕ mask) }
 {

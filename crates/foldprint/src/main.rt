@@ -4,7 +4,8 @@
 use std::io;
 use std::io::Write;
 
-// No contract can speak of what a program reads and writes: the line is a function of the input in `foldtext`.
+// No contract can speak of what a program reads and writes: the line is a function of the input in `foldtext`. (`batchprint` does the same with
+// another text: only a main is handed the runtime.)
 fn main(rt: HostRuntime) -> io::Result<()> {
     // One byte more than the longest input, so that a longer one is seen to be too long.
     let mut buffer = [0u8; 137];

@@ -41,7 +41,8 @@ pub fn softspoken_sender_setup(
     answer::number_of(answer)
 }
 
-// Opens a session of a width on a lent record, whatever that held. It returns the answer's number.
+// Opens a session of a width on a lent record, whatever that held. It returns the answer's number. (The steps stay five functions that hand their
+// ranges on: C calls each by its name.)
 pub fn softspoken_open(rec: &mut Record, width: u32) -> u32
     ensures { Numbered (λ answer. OpenSession rec.old width answer rec.new) result }
 {

@@ -76,7 +76,7 @@ fn end_batch(r: Record, key: u64) -> Result<(), Refusal>
     Ok(())
 }
 
-// The answer of the receiver's start.
+// The answer of the receiver's start. (Each step's order is a definition of its own, so each has a function.)
 pub fn receiver_start(
     r: Record,
     batch: u64,

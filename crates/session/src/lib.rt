@@ -37,7 +37,8 @@ fn stream_of(batch: u64) -> Stream
     Stream { batch }
 }
 
-// The receiver's start: choices, table and correction of a new batch.
+// The receiver's start: choices, table and correction of a new batch. (It and the sender's correction lend other ranges to other work, each under
+// its own clause.)
 pub fn receiver_start(
     r: Record,
     roots: &[u8],

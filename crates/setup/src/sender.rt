@@ -124,7 +124,7 @@ fn find_by_sides(trees: Trees, sides: &[u8], pads: &[u8], message: &[u8], siblin
     }
 }
 
-// The same, from delta.
+// The same, from delta. (So begins `sender_columns::correct`, of other ranges: two lines that make sides.)
 pub fn find_siblings(trees: Trees, delta: &[u8], pads: &[u8], message: &[u8], siblings: &mut [u8])
     requires { (trees.n * trees.k ≤ 8 * length delta.now) × (length pads.now ≡ trees.n * (32 * trees.k)) × (length message.now ≡ trees.n * (64 * trees.k)) × (length siblings.old ≡ trees.n * (32 * trees.k)) }
     ensures { siblings.new ≡ siblings_of trees.n trees.k delta.now pads.now message.now }

@@ -116,7 +116,8 @@ fn print_answer(to: &mut impl Write, answer: Result<(), Refusal>, s: &[u8]) -> i
     cases::print(to, &line)
 }
 
-// A width, the lengths of roots, base pads and message, and these: the answer, and the message afterwards.
+// A width, the lengths of roots, base pads and message, and these: the answer, and the message afterwards. (The two setups are lent other ranges,
+// so each has a function.)
 fn receiver_setup(to: &mut impl Write, p: &[u8]) -> io::Result<()> {
     if p.len() < 16 {
         return Ok(());
