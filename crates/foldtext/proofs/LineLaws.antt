@@ -31,6 +31,15 @@ hex_digits-length (suc n) x =
 pub fold_line-length : (x : ℕ) → length (fold_line x) ≡ 17
 fold_line-length x = length-append (hex_digits 16 x) (10 ∷ []) ∙ omega (arith, hex_digits-length 16 x)
 
+-- an input has a key
+pub input_long : (n : ℕ) → is_input n ≡ true → 16 ≤ n
+unfolding is_input
+input_long n e = here (leb 16 n) refl e
+  where
+    here : (b : Bool) → leb 16 n ≡ b → cond b (cond (leb n 136) (eqb (n % 8) 0) false) false ≡ true → 16 ≤ n
+    here true q r = leb-true 16 n q
+    here false q r = absurd (false≢true r)
+
 -- ---- the line by cases
 
 pub line-input : (s : List ℕ) → is_input (length s) ≡ true → line_of s ≡ fold_line (fold_bytes (word64 s 0) (drop 8 s))
