@@ -112,7 +112,8 @@ fn single(to: &mut impl Write, kind: u8, p: &[u8]) -> io::Result<()> {
     print_step(to, step, a, b, c, d)
 }
 
-// Makes an alteration, 8 bytes (a place in 4, a range's number in 2 and what to add in 2), if it has this range's number.
+// Makes an alteration, 8 bytes (a place in 4, a range's number in 2 and what to add in 2), if it has this range's number. (No method of a slice does
+// that.)
 fn alter(a: &[u8], range: u8, s: &mut [u8])
     requires { 8 ≡ length a.now }
 {
@@ -333,7 +334,7 @@ fn open(to: &mut impl Write, both: Sessions, p: &[u8]) -> io::Result<Sessions> {
 }
 
 // What a record asks for: the sessions' records, both opened, a whole batch; or a single step, on a record of its own. (A kind is a byte of the
-// input, matched here alone.)
+// input, which an enum would have to be made of first, here and in `single`.)
 fn case(to: &mut impl Write, both: Sessions, kind: u8, p: &[u8]) -> io::Result<Sessions> {
     match kind {
         1 => return Ok(set(both, p)),
