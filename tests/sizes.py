@@ -11,6 +11,8 @@ ROOT = pathlib.Path(__file__).resolve().parent.parent
 PROMISES = [("setup", "Setup"), ("session", "Steps"), ("answer", "Answer"), ("filereader", "Reading"), ("filewriter", "Write"), ("host", "File")]
 DEMANDS = [("theorems", "Demand1"), ("theorems", "Demand2"), ("theorems", "Demand3")]
 NOTES = [("rows", "Place"), ("theorems", "OldBatches"), ("filewriter", "RoundTrip")]
+# laws that an impl's ghost members cite, which may name specs/ alone
+LAWS = [("words", "Sums"), ("pads", "Lengths")]
 # std has the words of the language, and what `declared` holds is made from the structs and enums of src/
 IMPORT = re.compile(r"^use Rattle\.(?!std\.)(\w+)\.specs\.(?!declared)(\w+)", re.M)
 
@@ -53,12 +55,13 @@ def total(pattern, crates):
 def sums():
     """In the documents' words: what is believed, and what the prover holds to it."""
     proved, lines = library() + ["filereader", "errors", "theorems"], sum(believed().values())
+    laws = sum(definitions(ROOT / f"crates/{crate}/specs/{name}.antt") for crate, name in LAWS)
     return {
         "files": len(believed()),
         "lines of definitions": lines,
         "lines of code": total("src/*.rt", proved),
-        "lines of laws and proofs": total("proofs/**/*.antt", proved),
-        "lines of layouts and cases": total("specs/*.antt", proved) - lines,
+        "lines of laws and proofs": total("proofs/**/*.antt", proved) + laws,
+        "lines of layouts and cases": total("specs/*.antt", proved) - laws - lines,
         "wrong edits": len(list(ROOT.glob("crates/*/must-fail/*.edit"))),
     }
 

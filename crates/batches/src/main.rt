@@ -340,7 +340,8 @@ fn case(to: &mut impl Write, both: Sessions, kind: u8, p: &[u8]) -> io::Result<S
         1 => return Ok(set(both, p)),
         2 => return open(to, both, p),
         3 => return batch(to, both, p),
-        _ => single(to, kind, p)?,
+        4..=7 => single(to, kind, p)?,
+        _ => {}
     }
     Ok(both)
 }

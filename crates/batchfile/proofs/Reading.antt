@@ -1,15 +1,17 @@
 -- The laws of a file's answer and of its head. Assumes nothing.
-use mathlib.Core.Path.{◌≡◌, refl, sym, ap, ◌∙◌, subst}
+use mathlib.Core.Path.{◌≡◌, refl, sym, ap, ap₂, ◌∙◌, subst}
 use mathlib.Core.Bool.{Bool, true, false, ◌&&◌, false≢true, and-eq-true_iff}
 use mathlib.Core.List.{List, [], ◌∷◌}
 use mathlib.Core.Logic.{◌≢◌}
-use Prim.Native.Nat.{ℕ, ◌+◌, ◌≤◌, ◌<◌}
+use Prim.Native.Nat.{ℕ, ◌+◌, ◌-◌, ◌≤◌, ◌<◌}
 use native.Mathlib.Omega.{arith}
 use native.Mathlib.Decide.{ℕ_discrete, dec_lt}
 use lib.Dec.{eqb, leb}
-use lib.ListN.{length}
+use lib.ListN.{length, get_or, drop, length-drop}
+use lib.Seq.{take_all}
 use borrow.Author.Tests.{eqb-true, leb-true, eq-eqb, ne_eqb, le-leb, lt-leb}
-use Rattle.words.specs.Bytes.{part}
+use Rattle.words.specs.Bytes.{little_endian, part}
+use Rattle.words.proofs.Concat.{part_at, part_length, part-part}
 use Rattle.sizes.specs.Sizes.{head_length, short_head_length}
 use Rattle.std.specs.Prelude.{Err}
 use Rattle.answer.specs.declared.Refusal.TheVariants.{Contents, Body}
@@ -18,12 +20,16 @@ use Rattle.answer.proofs.Order.{AllHold, all_hold, is-done, onward, refused-at}
 use Rattle.rules.specs.Orders.{head_right}
 use Rattle.batchfile.specs.declared.Kind.{Kind}
 use Rattle.batchfile.specs.declared.Kind.TheVariants.{Setup, Head, Correction, Key, Check}
-use Rattle.batchfile.specs.File.{count_of, place_at, contents_right, present, entry_of, kind_number, body_of, values_order, read_order, read_answer, Taken}
+use Rattle.batchfile.specs.File.{count_of, place_at, contents_right, present, entry_of, kind_number, body_of, head_in, values_order, read_order, read_answer, Taken}
 use Rattle.batchfile.proofs.Standing.{either-of, standing, none_below, body_is, body-length, body-fits}
 
 -- ---- the answer, condition by condition
 
 module _ (file : List ℕ) where
+  pub contents-first : contents_right file ≡ false → read_answer file ≡ Err Contents
+  unfolding read_answer
+  contents-first e = refused-at [] _ (contents_right file) Contents tt e
+
   pub head-next : contents_right file ≡ true → head_right (length (body_of file 2)) ≡ false → read_answer file ≡ Err Body
   unfolding read_answer
   head-next e f = refused-at ((contents_right file, Contents) ∷ []) _ (head_right (length (body_of file 2))) Body (e, tt) f
@@ -64,6 +70,25 @@ head-least = head-cases (λ (n : ℕ). 2 ≤ n) (omega arith) (omega arith)
 
 pub head-most : (head : ℕ) → head_right head ≡ true → head ≤ head_length
 head-most = head-cases (λ (n : ℕ). n ≤ head_length) (omega arith) (omega arith)
+
+-- one that isn't short is long
+pub head-long : (head : ℕ) → head_right head ≡ true → head ≢ short_head_length → head ≡ head_length
+head-long = head-cases (λ (n : ℕ). n ≢ short_head_length → n ≡ head_length) (λ not_IsShort. refl) (λ not_IsShort. absurd (not_IsShort refl))
+
+-- its first two bytes, and the number in the others
+pub head-there : (file : List ℕ) (at head : ℕ) → 2 ≤ head → at + head ≤ length file
+    → head_in (part at head file)
+    ≡ record { width = get_or file at 0; blocks = get_or file (at + 1) 0; batch = little_endian (part (at + 2) (head - 2) file) }
+head-there file at head least fits =
+    let body : List ℕ = part at head file in
+    let byte : (i j : ℕ) → i < head → at + i ≡ j → get_or body i 0 ≡ get_or file j 0
+    = λ i j lt e. part_at at head file i lt ∙ ap (λ (k : ℕ). get_or file k 0) e in
+    let others : drop 2 body ≡ part (at + 2) (head - 2) file
+    = sym (take_all (head - 2) (drop 2 body) (omega (arith, length-drop 2 body, part_length at head file fits)))
+    ∙ part-part 2 (head - 2) at head file (omega arith) in
+    ap (λ (s : List ℕ). record { width = get_or body 0 0; blocks = get_or body 1 0; batch = little_endian s }) others
+    ∙ ap₂ (λ (x y : ℕ). record { width = x; blocks = y; batch = little_endian (part (at + 2) (head - 2) file) })
+    (byte 0 at (omega arith) (omega arith)) (byte 1 (at + 1) (omega arith) (omega arith))
 
 -- ---- kinds
 

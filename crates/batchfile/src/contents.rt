@@ -143,12 +143,14 @@ impl<'a> Contents<'a> {
         requires { head ≡ head_of self.now.file.now }
         ensures { result ≡ first_of (values_order self.now.file.now) }
     {
+        let key = self.place_of(Kind::Key);
+        let end = key + self.length_of(Kind::Key);
         values::answer(
             head,
             self.has(Kind::Setup),
             self.length_of(Kind::Setup),
             self.length_of(Kind::Correction),
-            self.body(Kind::Key),
+            &self.file[key..end],
             self.length_of(Kind::Check),
         )
     }

@@ -46,7 +46,9 @@ pub fn write_message(m: usize, key: u64, choices: &[u8], table: &[u8], message: 
 {
     words::store64(message, 0, gf64::fold(key, choices));
     let t = gf64::table(key);
-    fold_columns(m, choices.len(), &t, table, &mut message[8..]);
+    let start: usize = 8;
+    let end = start + 8 * m;
+    fold_columns(m, choices.len(), &t, table, &mut message[start..end]);
 }
 
 // The two sides of the check in column c, added, where folds has those of the sender's columns: 0 where they are equal.

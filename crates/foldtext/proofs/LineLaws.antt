@@ -5,10 +5,11 @@ use mathlib.Core.List.{List, [], ◌∷◌, ◌++◌, append_assoc, append-nil}
 use Prim.Native.Nat.{ℕ, zero, suc, ◌-◌, ◌/◌, ◌%◌, ◌<◌, ◌≤◌}
 use native.Mathlib.Omega.{arith}
 use lib.Dec.{leb, eqb}
-use lib.ListN.{replicate, length, drop, set, length-append, length-set}
-use lib.Seq.{drop-cons, drop-set-lt, get_or-set_same}
+use lib.ListN.{replicate, length, drop, set, take, length-take, length-append, length-set}
+use lib.Seq.{take-append_seam, drop-cons, drop-set-lt, get_or-set_same}
 use borrow.Author.Tests.{leb-true}
-use Rattle.foldtext.specs.Line.{is_input, hex_digit, hex_digits, fold_line, refused_line, line_of}
+use Rattle.foldtext.specs.declared.text.Text.{Text}
+use Rattle.foldtext.specs.Line.{is_input, hex_digit, hex_digits, fold_line, refused_line, line_of, Holds}
 use Rattle.words.specs.Bytes.{word64}
 use Rattle.gf64.specs.Field.{fold_bytes}
 
@@ -54,3 +55,15 @@ line_other s e = ap (λ (b : Bool). cond b (fold_line (fold_bytes (word64 s 0) (
 pub whole-line : (l : List ℕ) → length l ≡ 17 → l ≡ l ++ replicate (17 - length l) 0
 whole-line l e =
     sym (ap (λ (n : ℕ). l ++ replicate (17 - n) 0) e ∙ append-nil l)
+
+-- ---- a text starts with its line
+
+pub holds-line : {n : ℕ} (r : Text n) (l : List ℕ) → Holds r l → take r.len r.bytes ≡ l
+holds-line {n} r l h =
+    ap₂ (λ (m : ℕ) (b : List ℕ). take m b) h.long h.bytes ∙ take-append_seam l (replicate (n - length l) 0)
+
+pub holds-counted : {n : ℕ} (r : Text n) (l : List ℕ) → Holds r l → r.len ≡ length (take r.len r.bytes)
+holds-counted r l h = h.long ∙ sym (ap length (holds-line r l h))
+
+pub holds-within : {n : ℕ} (r : Text n) (l : List ℕ) → Holds r l → r.len ≤ length r.bytes
+holds-within r l h = omega (arith, holds-counted r l h, length-take r.len r.bytes)

@@ -5,7 +5,8 @@ ghost use Rattle.std.specs.Prelude.{◌≡◌, ◌++◌, ℕ, List, ◌+◌, ◌
 ghost use Rattle.words.specs.Bytes.{part, concat};
 ghost use Rattle.sizes.specs.Sizes.{columns, delta_length, column_length, table_length, receiver_pads_length, sender_pads_length};
 ghost use Rattle.rows.specs.Row.{row_of};
-ghost use Rattle.pads.specs.Pads.{pad_input, pad_of, pair_of, ValuesFit, of_values, receiver_pads, sender_pads};
+ghost use Rattle.pads.specs.Pads.{pad_input, pad_of, pair_of, receiver_pads, sender_pads};
+ghost use Rattle.pads.specs.Values.{ValuesFit, of_values};
 ghost use Rattle.pads.specs.Lengths.{pad-length, pair-length};
 ghost use Rattle.std.proofs.Common.{lit≤};
 

@@ -142,16 +142,23 @@ lane-rounds i l w h = ap work_of (lane-laned 8 (λ l. words_of (rounds i (schedu
 abbrev pub after : ℕ → List ℕ → List ℕ → ℕ → List ℕ
 after i w t l = words_of (four_rounds i (schedule_in l w) (work_of (lane l 8 t)))
 
-pub lanes-stepped : (turn : ℕ) (w : List ℕ) → four_in_lanes (4 * turn) w (rounds_in_lanes (4 * turn) w) ≡ rounds_in_lanes (4 * (turn + 1)) w
+-- at any round
+pub lanes-stepped : (i : ℕ) (w : List ℕ) → four_in_lanes i w (rounds_in_lanes i w) ≡ rounds_in_lanes (i + 4) w
 unfolding four_in_lanes rounds_in_lanes
-lanes-stepped turn w =
-    laned-is 8 (λ l. words_of (rounds (4 * (turn + 1)) (schedule_in l w) initial)) (laned 8 f) (laned-length 8 f)
+lanes-stepped i w =
+    laned-is 8 (λ l. words_of (rounds (i + 4) (schedule_in l w) initial)) (laned 8 f) (laned-length 8 f)
     (λ l h.
     lane-laned 8 f l h refl
-    ∙ ap words_of (ap (four_rounds (4 * turn) (schedule_in l w)) (lane-rounds (4 * turn) l w h) ∙ four-more turn (schedule_in l w) initial))
+    ∙ ap words_of (ap (four_rounds i (schedule_in l w)) (lane-rounds i l w h) ∙ four-more i (schedule_in l w) initial))
   where
     f : ℕ → List ℕ
-    f = after (4 * turn) w (rounds_in_lanes (4 * turn) w)
+    f = after i w (rounds_in_lanes i w)
+
+-- and at those of a turn
+pub lanes-turn : (turn : ℕ) (w : List ℕ) → four_in_lanes (4 * turn) w (rounds_in_lanes (4 * turn) w) ≡ rounds_in_lanes (4 * (turn + 1)) w
+lanes-turn turn w =
+    let next : 4 * turn + 4 ≡ 4 * (turn + 1) = omega arith in
+    lanes-stepped (4 * turn) w ∙ ap (λ (i : ℕ). rounds_in_lanes i w) next
 
 -- ---- the digests
 

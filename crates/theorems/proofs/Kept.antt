@@ -1,11 +1,13 @@
 -- Every promise can be kept: whatever a step is given, there is an answer, a record and ranges as its promise says. Assumes nothing.
-use mathlib.Core.Path.{refl}
+use mathlib.Core.Path.{◌≡◌, refl, ap}
 use Prim.Native.Nat.{ℕ}
 use lib.ListN.{length}
 use Rattle.words.specs.Bytes.{Range}
 use Rattle.sizes.specs.Sizes.{columns, trees_of}
 use Rattle.sizes.specs.Sizes.{column_length}
 use Rattle.tree.specs.Tree.{stream_byte}
+use Rattle.std.specs.Prelude.{Result, Ok, Err}
+use Rattle.answer.specs.declared.Refusal.{Refusal}
 use Rattle.answer.specs.Answer.{Answer, first_of, when_done, when_failed}
 use Rattle.setup.specs.Setup.{message_of, siblings_of, ReceiverSetup, SenderSetup}
 use Rattle.columns.specs.Columns.{choices_of, receiver_table, correction_of, tree_correction, sender_table}
@@ -17,7 +19,8 @@ use Rattle.rules.specs.Orders.{receiver_setup_order, sender_setup_order, session
 use Rattle.session.specs.Steps.{OpenSession, ReceiverStart, SenderCorrect, ReceiverAnswer, SenderVerify}
 use Rattle.batchfile.specs.declared.FileHead.{FileHead}
 use Rattle.batchfile.specs.declared.Places.{Places}
-use Rattle.batchfile.specs.File.{read_answer, head_found, places_found, ReadFile}
+use Rattle.batchfile.specs.declared.BatchFile.{BatchFile}
+use Rattle.batchfile.specs.File.{head_of, places_of, no_head, nowhere, read_answer, head_found, places_found, ReadFile, Finds}
 use Rattle.batchfile.specs.Laid.{Bodies}
 use Rattle.filewriter.specs.Write.{file_of, write_answer, WriteFile}
 
@@ -109,6 +112,30 @@ sender-verify-gives r key table delta message pads =
 pub read-file-gives : (file : Range) → Gives (FileHead × Places) (λ a found. ReadFile file a found.0 found.1)
 read-file-gives file =
     record { answer = read_answer file; left = (head_found file, places_found file); promised = record { answered = refl; headed = refl; placed = refl } }
+
+-- and so is that of `find`, whose result stands for these
+pub record FindGives (file : Range) : Type 0 where
+  pub found : Result BatchFile Refusal
+  pub promised : Finds file found
+
+pub find-gives : (file : Range) → FindGives file
+find-gives file = here (read_answer file) refl
+  where
+    here : (a : Answer) → a ≡ read_answer file → FindGives file
+    here (Ok tt) e =
+        record {
+          found = Ok (record { head = head_found file; places = places_found file });
+          promised = record { answered = e; headed = refl; placed = refl };
+        }
+    here (Err x) e =
+        record {
+          found = Err x;
+          promised = record {
+            answered = e;
+            headed = ap (λ (a : Answer). when_done a (head_of file) no_head) e;
+            placed = ap (λ (a : Answer). when_done a (places_of file) (nowhere (length file))) e;
+          };
+        }
 
 pub write-file-gives : (h : FileHead) (b : Bodies) (file : Range) → Gives Range (λ a f. WriteFile h b file a f)
 write-file-gives h b file =

@@ -7,6 +7,7 @@ pub mod Demand3
 pub mod Demand2
 pub mod OldBatches
 pub mod Ties
+pub mod Chained
 pub mod Edges
 pub mod Kept
 pub mod Witness

@@ -4,7 +4,8 @@ use Rattle.words.specs.Bytes.{part, put}
 use Rattle.words.proofs.Parts.{put_all}
 use Rattle.words.proofs.Concat.{concat-length}
 use Rattle.sha256_four.specs.FourDigests.{digests}
-use Rattle.pads.specs.Pads.{pad_of, of_values}
+use Rattle.pads.specs.Pads.{pad_of}
+use Rattle.pads.specs.Values.{of_values}
 use Rattle.pads.specs.Lengths.{pad-length}
 use Rattle.pads.proofs.Groups.{of_value}
 use Rattle.pads.proofs.Inputs.{four-hashed}

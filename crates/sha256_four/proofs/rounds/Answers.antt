@@ -3,7 +3,7 @@ use Rattle.sha256.specs.declared.Work.{Work}
 use Rattle.sha256.specs.Sha.{rounds}
 use Rattle.words.specs.Lanes.{laned}
 use Rattle.sha256_four.specs.FourDigests.{words_of, four_in_lanes, rounds_in_lanes}
-use Rattle.sha256_four.proofs.InLanes.{lanes-stepped}
+use Rattle.sha256_four.proofs.InLanes.{lanes-turn}
 use Rattle.sha256_four.proofs.rounds.Goals as goal
 
 pub loop-turn-init : goal.loop-turn-init
@@ -14,4 +14,4 @@ pub loop-turn-preserved : goal.loop-turn-preserved
 loop-turn-preserved c =
     let h = c.loop-turn in
     let w = c.args.w.now in
-    c.lanes.ensures ∙ ap (four_in_lanes (4 * h.turn) w) h.invariant ∙ lanes-stepped h.turn w
+    c.lanes.ensures ∙ ap (four_in_lanes (4 * h.turn) w) h.invariant ∙ lanes-turn h.turn w

@@ -1,5 +1,5 @@
-use Rattle.words.proofs.Word32.{rotl_std}
+use Rattle.words.proofs.Word32.{rotl-or}
 use Rattle.words.proofs.rotate_left.Goals as goal
 
 pub returns : goal.returns
-returns c = let same = rotl_std c.args.k c.args.x c.requires.0 c.requires.1 c.ranges.x.fits in cc
+returns c = rotl-or c.args.k c.args.x c.requires.1 c.ranges.x.fits
