@@ -11,8 +11,8 @@ ROOT = pathlib.Path(__file__).resolve().parent.parent
 PROMISES = [("setup", "Setup"), ("session", "Steps"), ("answer", "Answer"), ("filereader", "Reading"), ("filewriter", "Write"), ("host", "File")]
 DEMANDS = [("theorems", "Demand1"), ("theorems", "Demand2"), ("theorems", "Demand3")]
 NOTES = [("rows", "Place"), ("theorems", "OldBatches"), ("filewriter", "RoundTrip")]
-# laws that an impl's ghost members cite, which may name specs/ alone
-LAWS = [("words", "Sums"), ("pads", "Lengths")]
+# a file of specs/ that cites proofs has laws, which stand there since an impl's ghost members may name specs/ alone
+CITES = re.compile(r"^use [\w.]+\.proofs\.", re.M)
 # std has the words of the language, and what `declared` holds is made from the structs and enums of src/
 IMPORT = re.compile(r"^use Rattle\.(?!std\.)(\w+)\.specs\.(?!declared)(\w+)", re.M)
 
@@ -55,7 +55,8 @@ def total(pattern, crates):
 def sums():
     """In the documents' words: what is believed, and what the prover holds to it."""
     proved, lines = library() + ["filereader", "errors", "theorems"], sum(believed().values())
-    laws = sum(definitions(ROOT / f"crates/{crate}/specs/{name}.antt") for crate, name in LAWS)
+    specs = [path for crate in proved for path in (ROOT / "crates" / crate).glob("specs/*.antt")]
+    laws = sum(definitions(path) for path in specs if CITES.search(path.read_text()))
     return {
         "files": len(believed()),
         "lines of definitions": lines,
